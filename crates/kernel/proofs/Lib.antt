@@ -1,0 +1,4 @@
+pub mod Tests
+pub mod Owned
+mod States
+pub mod Refusals

@@ -1,0 +1,92 @@
+-- `Table::create`: the slot that it takes is the first unused one.
+use Prim.Native.Nat.{_+_, _<_}
+use mathlib.Core.Path.{_≡_}
+use native.Mathlib.Omega.{arith}
+use lib.ListN.{length, length-set}
+use borrow.Author.Needs.{needs}
+use borrow.Author.Tests.{le-leb, lt-leb}
+use Rattle.kernel.specs.declared.table.State.the-variants.{Ready}
+use Rattle.kernel.specs.declared.table.Outcome.the-variants.{Nothing, Fault}
+use Rattle.kernel.specs.declared.table.Effect.the-variants.{Keep}
+use Rattle.kernel.specs.declared.table.Task.{Task}
+use Rattle.kernel.specs.Table.{priorities, usedSlots}
+use Rattle.kernel.specs.Kinds.{create}
+use Rattle.kernel.proofs.Owned.{owned-shaped}
+use Rattle.kernel.proofs.table.Table.create.Statement.{statement}
+use Rattle.kernel.proofs.table.Table.create.Tie as tie
+
+slots32 : (c : tie.Start) → length (c .args .t1 .tasks) ≡ 32
+slots32 c = owned-shaped (c .args .t1) _ (c .good .0) .tasks
+
+found : (p : tie.After-used-slots) → p .used-slots .result ≡ usedSlots (p .before .before .before .args .t1)
+unfolding usedSlots
+found p = rw (slots32 (p .before .before .before)) (p .used-slots .ensures)
+
+used-slots-requires : tie.Need-used-slots-requires
+used-slots-requires c κs = search needs
+
+cast-woken : tie.Need-cast-woken
+cast-woken c = search needs
+
+cast-t14 : tie.Need-cast-t14
+cast-t14 c = search needs
+
+add-t15 : tie.Need-add-t15
+add-t15 c = search needs
+
+mul-t18 : tie.Need-mul-t18
+mul-t18 c = search needs
+
+element-set-from-self : tie.Need-element-set-from-self
+element-set-from-self c = search needs
+
+cast-woken-2 : tie.Need-cast-woken-2
+cast-woken-2 c = search needs
+
+add-woken : tie.Need-add-woken
+add-woken c = search needs
+
+cast-t21 : tie.Need-cast-t21
+cast-t21 c = search needs
+
+add-t22 : tie.Need-add-t22
+add-t22 c = search needs
+
+returns : tie.Need-returns
+unfolding create
+returns c =
+    let start = c .before .before .before .before in
+    let t = start .args .t1 in
+    let n = slots32 start in
+    let first = found (c .before) in
+    rw (first, lt-leb priorities (start .args .priority) (omega arith), lt-leb (length (t .tasks)) (usedSlots t) (omega arith))
+
+returns-2 : tie.Need-returns-2
+unfolding create
+returns-2 c =
+    let start = c .before .before .before .before in
+    let n = slots32 start in
+    let first = found (c .before) in
+    rw (lt-leb priorities (start .args .priority) (omega arith), le-leb (length (start .args .t1 .tasks)) (usedSlots (start .args .t1)) (omega arith))
+
+returns-3 : tie.Need-returns-3
+unfolding create
+returns-3 c = rw (le-leb priorities (c .before .args .priority) (omega arith))
+
+pub create-spec : {M : Type 1} → statement M
+create-spec =
+    tie.close
+    (tie.spec
+    used-slots-requires
+    cast-woken
+    cast-t14
+    add-t15
+    mul-t18
+    element-set-from-self
+    cast-woken-2
+    add-woken
+    cast-t21
+    add-t22
+    returns
+    returns-2
+    returns-3)

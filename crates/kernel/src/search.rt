@@ -1,0 +1,48 @@
+// What is found in the tasks by a search: nothing of it is stored.
+ghost use mathlib.Core.Path.{_≡_};
+ghost use mathlib.Core.Bool.{not};
+ghost use lib.ListN.{getD};
+ghost use Rattle.queue.specs.Choose.{firstBelow};
+ghost use Rattle.queue.specs.Row.{places};
+ghost use Rattle.kernel.specs.Table.{noTask, isActive, isUsed};
+use crate::parts::ACTIVE;
+use crate::parts::UNUSED;
+use crate::parts::state_code;
+use crate::table::SLOTS;
+use crate::table::Task;
+
+// The slot that is active; SLOTS where none is.
+pub fn first_active(tasks: [Task; SLOTS]) -> usize
+    ensures { λ r. ⌜ r ≡ firstBelow places (λ s. isActive (getD tasks s noTask .state)) ⌝ }
+{
+    let mut s = 0;
+    loop {
+        if s == SLOTS {
+            break SLOTS;
+        }
+        let task = tasks[s];
+        let state = task.state;
+        if state_code(state) == ACTIVE {
+            break s;
+        }
+        s += 1;
+    }
+}
+
+// How many slots are used, which come first.
+pub fn used_slots(tasks: [Task; SLOTS]) -> usize
+    ensures { λ r. ⌜ r ≡ firstBelow places (λ s. not (isUsed (getD tasks s noTask .state))) ⌝ }
+{
+    let mut s = 0;
+    loop {
+        if s == SLOTS {
+            break SLOTS;
+        }
+        let task = tasks[s];
+        let state = task.state;
+        if state_code(state) == UNUSED {
+            break s;
+        }
+        s += 1;
+    }
+}

@@ -1,0 +1,123 @@
+// What the kernel keeps: a table of tasks, their queues, and who waits for which event.
+ghost use mathlib.Core.Path.{_≡_};
+ghost use Rattle.kernel.specs.Moves.{taskAs};
+use queue::PLACES;
+use queue::Queue;
+
+// A task's slot is its tid less one. Each slot has a place in every queue.
+pub const SLOTS: usize = PLACES;
+
+pub const PRIORITIES: usize = 32;
+
+pub const EVENTS: usize = 64;
+
+// The bytes that each task owns.
+pub const AREA: usize = 256;
+
+// A word from here on is negative, so a value is below it.
+pub const FIRST_NEGATIVE: u32 = 2147483648;
+
+// Part of a task's own area: where it starts, and how many bytes.
+pub struct Buffer {
+    pub start: u32,
+    pub len: u32,
+}
+
+// What a task is told when it next runs. A fault is 1, 2 or 3, for -1, -2 or -3.
+// `from` stands beside the tag, where it fills what would be padding.
+pub enum Outcome {
+    Nothing,
+    Value { from: u8, value: u32 },
+    Fault(u8),
+}
+
+// The states of 003, by its names: a send-blocked task waits in Receive, a receive-blocked one in Send.
+pub enum State {
+    Unused,
+    Active,
+    Ready,
+    SendBlocked(Buffer),
+    ReceiveBlocked {
+        target: u8,
+        message: Buffer,
+        reply: Buffer,
+    },
+    ReplyBlocked(Buffer),
+    EventBlocked(u8),
+    Exited,
+}
+
+pub struct Task {
+    pub state: State,
+    pub priority: u8,
+    pub parent: u8,
+    pub outcome: Outcome,
+}
+
+impl Task {
+    // The task in another state, with a result to be told.
+    pub(crate) fn becomes(self, state: State, outcome: Outcome) -> Self
+        ensures { λ r. ⌜ r ≡ taskAs state outcome self ⌝ }
+    {
+        Task {
+            state,
+            priority: self.priority,
+            parent: self.parent,
+            outcome,
+        }
+    }
+}
+
+pub struct Table {
+    pub tasks: [Task; SLOTS],
+    pub ready: [Queue; PRIORITIES],
+    pub senders: [Queue; SLOTS],
+    pub waiters: [u8; EVENTS],
+}
+
+// A kind and five arguments: words of 32 bits, negative from 2^31 on.
+pub struct Request {
+    pub kind: u32,
+    pub arg0: u32,
+    pub arg1: u32,
+    pub arg2: u32,
+    pub arg3: u32,
+    pub arg4: u32,
+}
+
+// What the caller of a step is shown. A verdict of 0 is no refusal.
+pub struct Answer {
+    pub verdict: u8,
+    pub next: u8,
+    pub outcome: Outcome,
+}
+
+// What a step does to the areas.
+pub enum Effect {
+    Keep,
+    Copy {
+        from: usize,
+        to: usize,
+        count: usize,
+    },
+    Put {
+        at: usize,
+        byte: u8,
+    },
+}
+
+// What the work of a request leaves: the next table, the tid of a task that was made ready (0 for none), and
+// the caller's own next state and result.
+pub struct Turn {
+    pub table: Table,
+    pub woken: u8,
+    pub state: State,
+    pub outcome: Outcome,
+    pub effect: Effect,
+}
+
+pub struct Decision {
+    pub table: Table,
+    pub answer: Answer,
+    pub effect: Effect,
+}
