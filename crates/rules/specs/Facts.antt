@@ -9,10 +9,11 @@ use Rattle.queue.specs.declared.Queue.{Queue}
 use Rattle.queue.specs.Choose.{choose}
 use Rattle.queue.specs.Rows.{rowAt}
 use Rattle.queue.specs.Facts.{RowsFacts}
 use Rattle.kernel.specs.declared.table.Task.{Task}
 use Rattle.kernel.specs.declared.table.Table.{Table}
 use Rattle.kernel.specs.Table.{priorities, events, noTask, taskAt, readyRow, awaited, isUsed, isActive, isReady, isSendBlocked, isEventBlocked, activeSlot, usedSlots}
-use Rattle.kernel.specs.Good.{goodParent, goodState, goodOutcome, isNothing, readyKey, sendersKey, waitsFor}
+use Rattle.kernel.specs.Shape.{ShapedRows}
+use Rattle.rules.specs.Good.{goodParent, goodState, goodOutcome, isNothing, readyKey, sendersKey, waitsFor}
 
 -- the task of a used slot
 pub record UsedFacts (used s : ℕ) (x : Task) : Type 0 where

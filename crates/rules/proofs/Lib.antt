@@ -1,0 +1,9 @@
+pub mod Tasks
+pub mod Change
+pub mod Moves
+pub mod Good
+pub mod Settled
+pub mod Entries
+pub mod Fresh
+pub mod Kept
+pub mod Walk
