@@ -1,11 +1,11 @@
 -- The laws of specs/Laws, each under its name in small letters.
 use Prim.Native.Nat.{ℕ, _<_}
-use native.Mathlib.Nat.{zero-add, add-sub-cancel-left}
-use native.Mathlib.Omega.{arith}
 use mathlib.Core.Path.{_≡_, refl, ap, _∙⁻¹_}
 use mathlib.Core.Logic.{_≢_}
 use mathlib.Core.Bool.{true}
 use mathlib.Core.List.{flatten}
+use native.Mathlib.Nat.{zero-add, add-sub-cancel-left}
+use native.Mathlib.Omega.{arith}
 use lib.ListN.{length, getD}
 use Rattle.kernel.specs.declared.table.Table.{Table}
 use Rattle.kernel.specs.declared.table.Request.{Request}

@@ -1,9 +1,9 @@
 -- What is so of every step from a good table, and so of every step of a run.
-use Prim.Native.Nat.{ℕ, _*_, _≤_, _<_}
-use native.Mathlib.Omega.{arith}
+use Prim.Native.Nat.{ℕ, _*_, _<_}
 use mathlib.Core.Path.{_≡_}
 use mathlib.Core.Bool.{true, not}
 use mathlib.Core.List.{List, [], _∷_}
+use native.Mathlib.Omega.{arith}
 use lib.ListN.{length}
 use lib.Dec.{ltb, leb, eqb}
 use borrow.Author.Tests.{ltb-true, leb-true}
@@ -16,7 +16,7 @@ use Rattle.kernel.specs.declared.table.Decision.{Decision}
 use Rattle.kernel.specs.Numbers.{badAreas}
 use Rattle.kernel.specs.Table.{firstNegative, areaBytes, slots}
 use Rattle.kernel.proofs.Tests.{chosen}
-use Rattle.rules.specs.Good.{goodTable, goodOutcome}
+use Rattle.rules.specs.Good.{goodOutcome}
 use Rattle.rules.specs.Facts.{Good}
 use Rattle.rules.proofs.Good.{facts-good}
 use Rattle.rules.proofs.Entries.{Sound}

@@ -1,15 +1,9 @@
 -- `Table::await_event`: a way out for each test of the paper's row.
-use Prim.Native.Nat.{_+_, _<_}
-use mathlib.Core.Path.{_≡_, refl}
 use native.Mathlib.Omega.{arith}
-use lib.ListN.{length}
 use borrow.Author.Needs.{needs}
 use borrow.Author.Tests.{le-leb, lt-leb, eq-eqb, ne-eqb}
-use Rattle.kernel.specs.declared.table.State.the-variants.{EventBlocked}
-use Rattle.kernel.specs.declared.table.Outcome.the-variants.{Fault}
 use Rattle.kernel.specs.Table.{events, waiterAt}
 use Rattle.kernel.specs.Kinds.{awaitEvent}
-use Rattle.kernel.proofs.Owned.{owned-shaped}
 use Rattle.kernel.proofs.table.Table.await_event.Statement.{statement}
 use Rattle.kernel.proofs.table.Table.await_event.Tie as tie
 

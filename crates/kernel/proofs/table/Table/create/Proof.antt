@@ -1,14 +1,9 @@
 -- `Table::create`: the slot that it takes is the first unused one.
-use Prim.Native.Nat.{_+_, _<_}
 use mathlib.Core.Path.{_≡_}
 use native.Mathlib.Omega.{arith}
-use lib.ListN.{length, length-set}
+use lib.ListN.{length}
 use borrow.Author.Needs.{needs}
 use borrow.Author.Tests.{le-leb, lt-leb}
-use Rattle.kernel.specs.declared.table.State.the-variants.{Ready}
-use Rattle.kernel.specs.declared.table.Outcome.the-variants.{Nothing, Fault}
-use Rattle.kernel.specs.declared.table.Effect.the-variants.{Keep}
-use Rattle.kernel.specs.declared.table.Task.{Task}
 use Rattle.kernel.specs.Table.{priorities, usedSlots}
 use Rattle.kernel.specs.Kinds.{create}
 use Rattle.kernel.proofs.Owned.{owned-shaped}

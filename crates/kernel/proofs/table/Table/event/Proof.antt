@@ -1,14 +1,12 @@
 -- `Table::event`: the waiter, if any, is woken, and the active task, if any, interrupted.
-use Prim.Native.Nat.{_+_, _-_, _≤_}
-use mathlib.Core.Path.{_≡_, refl}
+use Prim.Native.Nat.{_-_, _≤_}
+use mathlib.Core.Path.{_≡_}
 use native.Mathlib.Omega.{arith}
-use lib.ListN.{length, length-set}
+use lib.ListN.{length}
 use lib.Seq.{set-out}
 use borrow.Author.Needs.{needs}
 use borrow.Author.Tests.{ne-eqb}
-use Rattle.kernel.specs.declared.table.State.the-variants.{Ready}
-use Rattle.kernel.specs.declared.table.Effect.the-variants.{Keep}
-use Rattle.kernel.specs.Table.{waiterAt, withWaiter}
+use Rattle.kernel.specs.Table.{waiterAt}
 use Rattle.kernel.specs.Kinds as Kinds
 use Rattle.kernel.proofs.Owned.{owned-shaped}
 use Rattle.kernel.proofs.table.Table.event.Statement.{statement}

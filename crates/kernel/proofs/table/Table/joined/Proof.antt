@@ -8,8 +8,7 @@ use lib.Seq.{set-out}
 use lib.Dec.{eqb}
 use borrow.Author.Needs.{needs}
 use borrow.Author.Tests.{ne-eqb}
-use Rattle.kernel.specs.Moves.{joinedTid}
-use Rattle.kernel.specs.Moves.{joined}
+use Rattle.kernel.specs.Moves.{joinedTid, joined}
 use Rattle.kernel.specs.Table.{noTask, taskAt}
 use Rattle.kernel.proofs.Owned.{owned-shaped}
 use Rattle.kernel.proofs.table.Table.joined.Statement.{statement}

@@ -1,17 +1,14 @@
 -- `Table::receive`: the head of the send queue is delivered, or the caller waits.
-use Prim.Native.Nat.{_-_, _≤_, _<_}
-use mathlib.Core.Path.{_≡_, refl, sym, _∙_}
+use Prim.Native.Nat.{_-_, _≤_}
+use mathlib.Core.Path.{_≡_, sym, _∙_}
 use mathlib.Core.Bool.{true, false}
 use native.Mathlib.Omega.{arith}
-use lib.ListN.{length, length-set, List·getD-eq-default}
+use lib.ListN.{length, List·getD-eq-default}
 use lib.Seq.{set-out}
 use borrow.Author.Needs.{needs}
 use borrow.Author.Tests.{lt-ltb, le-ltb}
 use Rattle.queue.specs.Row.{placeAt}
-use Rattle.kernel.specs.declared.table.State.the-variants.{SendBlocked, ReplyBlocked}
-use Rattle.kernel.specs.declared.table.Outcome.the-variants.{Fault}
-use Rattle.kernel.specs.Table.{noTask, taskAt, sendersRow, replyOf}
-use Rattle.kernel.specs.Table.{goodBuffer}
+use Rattle.kernel.specs.Table.{noTask, sendersRow, goodBuffer}
 use Rattle.kernel.specs.Moves.{received}
 use Rattle.kernel.specs.Kinds.{receive}
 use Rattle.kernel.proofs.Owned.{owned-shaped}

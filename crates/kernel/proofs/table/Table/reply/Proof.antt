@@ -1,14 +1,12 @@
 -- `Table::reply`: a way out for each test of the paper's row.
-use Prim.Native.Nat.{_+_, _-_, _≤_, _<_}
+use Prim.Native.Nat.{_-_, _≤_}
 use mathlib.Core.Path.{_≡_, sym, _∙_}
 use mathlib.Core.Bool.{true, false}
 use mathlib.Core.List.{[], _∷_}
 use native.Mathlib.Omega.{arith}
-use lib.ListN.{length, length-set, List·getD-eq-default}
+use lib.ListN.{length, List·getD-eq-default}
 use borrow.Author.Needs.{needs}
 use borrow.Author.Tests.{le-leb, lt-leb}
-use Rattle.kernel.specs.declared.table.State.the-variants.{Ready}
-use Rattle.kernel.specs.declared.table.Outcome.the-variants.{Value, Fault}
 use Rattle.kernel.specs.Table.{goodBuffer}
 use Rattle.kernel.specs.Kinds.{reply, alive}
 use Rattle.kernel.proofs.Owned.{owned-shaped}

@@ -1,6 +1,6 @@
 -- `Table::send`: a way out for each test of the paper's row, the faults first.
-use Prim.Native.Nat.{_+_, _-_, _≤_, _<_}
-use mathlib.Core.Path.{_≡_, refl, sym, _∙_}
+use Prim.Native.Nat.{_+_, _-_, _≤_}
+use mathlib.Core.Path.{_≡_, sym, _∙_}
 use mathlib.Core.Bool.{true, false}
 use mathlib.Core.List.{[], _∷_}
 use native.Mathlib.Omega.{arith}
@@ -8,14 +8,9 @@ use lib.ListN.{length, List·getD-eq-default}
 use lib.Dec.{eqb}
 use borrow.Author.Needs.{needs}
 use borrow.Author.Tests.{le-leb, lt-leb, eq-eqb, ne-eqb}
-use Rattle.queue.specs.Row.{pushedRow}
 use Rattle.kernel.specs.Kinds.{send, alive}
-use Rattle.kernel.specs.Table.{sendersRow, withSenders}
 use Rattle.kernel.specs.Table.{goodBuffer}
 use Rattle.kernel.specs.Moves.{queued}
-use Rattle.kernel.specs.declared.table.State.the-variants.{Ready, ReceiveBlocked, ReplyBlocked}
-use Rattle.kernel.specs.declared.table.Outcome.the-variants.{Fault, Value}
-use Rattle.kernel.specs.declared.table.Effect.the-variants.{Keep}
 use Rattle.kernel.proofs.Owned.{owned-shaped}
 use Rattle.kernel.proofs.States.{other-state}
 use Rattle.kernel.proofs.table.Table.send.Statement.{statement}

@@ -2,13 +2,11 @@
 use Prim.Native.Nat.{ℕ, _≤_, _<_}
 use mathlib.Core.Path.{_≡_}
 use native.Mathlib.Omega.{arith}
-use lib.ListN.{length}
 use borrow.Author.Needs.{needs}
 use Rattle.queue.specs.Row.{places}
 use Rattle.kernel.specs.Numbers.{eventKind}
 use Rattle.kernel.specs.Decide.{turnOf}
 use Rattle.kernel.proofs.Refusals.{Fine, fine}
-use Rattle.kernel.proofs.Owned.{owned-shaped}
 use Rattle.kernel.proofs.table.Table.turned.Statement.{statement}
 use Rattle.kernel.proofs.table.Table.turned.Tie as tie
 
