@@ -8,17 +8,18 @@ use lib.Seq.{set-out}
 use lib.Dec.{eqb}
 use borrow.Author.Needs.{needs}
 use borrow.Author.Tests.{ne-eqb}
+use Rattle.queue.specs.Row.{places}
 use Rattle.kernel.specs.Moves.{joinedTid, joined}
 use Rattle.kernel.specs.Table.{noTask, taskAt}
 use Rattle.kernel.proofs.Owned.{owned-shaped}
 use Rattle.kernel.proofs.table.Table.joined.Statement.{statement}
 use Rattle.kernel.proofs.table.Table.joined.Tie as tie
 
-slots32 : (c : tie.Start) → length (c .args .t1 .tasks) ≡ 32
-slots32 c = owned-shaped (c .args .t1) _ (c .good .0) .tasks
+slots-all : (c : tie.Start) → length (c .args .t1 .tasks) ≡ places
+slots-all c = owned-shaped (c .args .t1) _ (c .good .0) .tasks
 
-rows32 : (c : tie.Start) → length (c .args .t1 .ready) ≡ 32
-rows32 c = owned-shaped (c .args .t1) _ (c .good .0) .ready .count
+rows-all : (c : tie.Start) → length (c .args .t1 .ready) ≡ places
+rows-all c = owned-shaped (c .args .t1) _ (c .good .0) .ready .count
 
 slot-requires : tie.Need-slot-requires
 slot-requires c κs = search needs
@@ -73,7 +74,7 @@ returns-2 c =
     let found = met .before .before .before in
     let t = found .before .before .args .t1 in
     let tid = found .before .before .args .tid in
-    let n = rows32 (found .before .before) in
+    let n = rows-all (found .before .before) in
     let some : eqb tid 0 ≡ false = ne-eqb tid 0 (λ e. omega arith) in
     let past : length (t .ready) ≤ taskAt t (tid - 1) .priority = rw (← found .slot .ensures .0, ← met .wide .ensures) (omega arith) in
     rw (some, set-out (t .ready) (taskAt t (tid - 1) .priority) _ past)
@@ -85,7 +86,7 @@ returns-3 c =
     let start = found .before .before in
     let t = start .args .t1 in
     let tid = start .args .tid in
-    let n = slots32 start in
+    let n = slots-all start in
     let some : eqb tid 0 ≡ false = ne-eqb tid 0 (λ e. omega arith) in
     let whole : tid - 1 + 1 ≡ tid = omega arith in
     let past : length (t .tasks) ≤ tid - 1 = rw (← found .slot .ensures .0) (omega arith) in

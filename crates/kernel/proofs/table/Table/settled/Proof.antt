@@ -2,13 +2,14 @@
 use mathlib.Core.Path.{_≡_}
 use lib.ListN.{length}
 use borrow.Author.Needs.{needs}
+use Rattle.queue.specs.Row.{places}
 use Rattle.kernel.specs.Turn.{settled}
 use Rattle.kernel.proofs.Owned.{owned-shaped}
 use Rattle.kernel.proofs.table.Table.settled.Statement.{statement}
 use Rattle.kernel.proofs.table.Table.settled.Tie as tie
 
-slots32 : (c : tie.Start) → length (c .args .self .tasks) ≡ 32
-slots32 c = owned-shaped (c .args .self) _ (c .good .0) .tasks
+slots-all : (c : tie.Start) → length (c .args .self .tasks) ≡ places
+slots-all c = owned-shaped (c .args .self) _ (c .good .0) .tasks
 
 ready-tid-requires : tie.Need-ready-tid-requires
 ready-tid-requires c κs = search needs
@@ -29,7 +30,7 @@ returns : tie.Need-returns
 unfolding settled
 returns c =
     let asked = c .before .before .before .before in
-    rw (c .dispatched .ensures, c .before .joined2 .ensures, c .before .before .left .ensures, c .before .before .before .joined .ensures, asked .ready-tid .ensures, slots32 (asked .before))
+    rw (c .dispatched .ensures, c .before .joined2 .ensures, c .before .before .left .ensures, c .before .before .before .joined .ensures, asked .ready-tid .ensures, slots-all (asked .before))
 
 pub settled-spec : {M : Type 1} → statement M
 settled-spec =
