@@ -1,7 +1,6 @@
 -- The paper's first run, by computation of the run that is not checked again at each step.
 use Prim.Native.Nat.{ℕ}
 use native.Mathlib.Omega.{arith}
-use mathlib.Core.Path.{refl}
 use mathlib.Core.List.{map}
 use lib.ListN.{replicate, length-replicate}
 use Rattle.queue.specs.Choose.{firstFrom}
