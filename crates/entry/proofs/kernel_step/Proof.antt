@@ -1,0 +1,262 @@
+-- `kernel_step`: a way out for each refusal of the byte entry, and the step itself.
+use Prim.Native.Nat.{ℕ, _*_, _≤_}
+use native.Mathlib.Omega.{arith}
+use mathlib.Core.Path.{_≡_, ap, _∙_}
+use mathlib.Core.Bool.{true}
+use mathlib.Core.List.{List}
+use lib.ListN.{length}
+use borrow.Author.Needs.{needs}
+use Rattle.queue.specs.Row.{places}
+use Rattle.kernel.specs.Numbers.{accepted, badAreas, badTable, badRecord, badImage}
+use Rattle.kernel.specs.declared.table.Decision.{Decision}
+use Rattle.kernel.specs.Table.{areaBytes, slots}
+use Rattle.kernel.specs.Decide.{decide}
+use Rattle.image.specs.declared.stored.Reading.{Reading}
+use Rattle.image.specs.Record.{recordLength}
+use Rattle.image.specs.Image.{tableOf, isImage, reading}
+use Rattle.image.specs.Call.{requestLength, requestFrom, answerLength}
+use Rattle.entry.specs.Entry.{unfit}
+use Rattle.entry.proofs.Calls.{wrong-answer, unfit-record, unfit-image, unfit-areas, unfit-table, fits, unfit-call, refused-call, accepted-call, read-bad, read-good, next-slots, decided-read}
+use Rattle.entry.proofs.kernel_step.Statement.{statement}
+use Rattle.entry.proofs.kernel_step.Tie as tie
+
+-- the start of the call, and what was lent
+
+abbrev opened : tie.After-slice-known3 → tie.Start
+opened p = p .before .before .before .before
+
+abbrev image : tie.Start → List ℕ
+image c = c .args .image .now
+
+abbrev areas : tie.Start → List ℕ
+areas c = c .args .areas .now
+
+abbrev request : tie.Start → List ℕ
+request c = c .args .request .now
+
+abbrev answer : tie.Start → List ℕ
+answer c = c .args .answer .now
+
+-- each length that was asked for
+
+room : (p : tie.Else1) → length (answer (opened (p .before))) ≡ answerLength
+room p = omega arith
+
+asked : (p : tie.Else2) → length (request (opened (p .before .before))) ≡ requestLength
+asked p = omega arith
+
+sized : (p : tie.Else3) → length (image (opened (p .before .before .before))) ≡ places * recordLength
+sized p = omega arith
+
+lent : (p : tie.Else4) → length (areas (opened (p .before .before .before .before))) ≡ places * areaBytes
+lent p = omega arith
+
+-- where the decision is made, the image was read as a good table
+
+abbrev fitting : tie.After-decide-at → tie.Else4
+fitting p = p .before .before .before .before .before .before .before
+
+abbrev begun : tie.After-decide-at → tie.Start
+begun p = opened (fitting p .before .before .before .before)
+
+good : (p : tie.After-decide-at)
+    → (isImage places (image (begun p)) ≡ true) × (p .before .before .before .before .before .read .result ≡ reading (tableOf places (image (begun p))) accepted)
+good p =
+    let met = p .before .before .before .before .before in
+    let none = p .before .before .before .if5 .left in
+    let verdict = ap (λ (x : Reading). x .verdict) (met .read .ensures) in
+    let found = read-good places (image (begun p)) (sized (fitting p .before)) (rw verdict at none) in
+    (found .0, met .read .ensures ∙ found .1)
+
+fit : (p : tie.After-decide-at) → unfit places (image (begun p)) (areas (begun p)) (request (begun p)) ≡ accepted
+fit p =
+    let start = begun p in
+    let passed = fitting p in
+    fits places (image start) (areas start) (request start) (answer start) (asked (passed .before .before)) (sized (passed .before)) (lent passed) (good p .0)
+
+-- the decision is that of the table which the image gives
+decided : (p : tie.After-decide-at) → p .decide-at .result ≡ decide (tableOf places (image (begun p))) (requestFrom (request (begun p)))
+decided p = decided-read places (image (begun p)) (good p .1) (p .before .request-from .ensures) (p .decide-at .ensures)
+
+cast-result : tie.Need-cast-result
+cast-result c = search needs
+
+returns : tie.Need-returns
+returns c =
+    let start = opened (c .before) in
+    wrong-answer places (image start) (areas start) (request start) (answer start) (λ e. omega arith)
+
+refuse-requires : tie.Need-refuse-requires
+refuse-requires c κs = search needs
+
+same-length : tie.Need-same-length
+same-length c = search needs
+
+returns-2 : tie.Need-returns-2
+returns-2 c =
+    let told = c .before .before in
+    let here = told .before .before in
+    let passed = here .before in
+    let start = opened (passed .before) in
+    unfit-call places (image start) (areas start) (request start) (answer start) (room passed) badRecord (omega arith)
+    (unfit-record places (image start) (areas start) (request start) (answer start) (λ e. omega arith))
+    (told .refuse .ensures)
+
+refuse-requires-2 : tie.Need-refuse-requires-2
+refuse-requires-2 c κs = search needs
+
+same-length-2 : tie.Need-same-length-2
+same-length-2 c = search needs
+
+returns-3 : tie.Need-returns-3
+returns-3 c =
+    let told = c .before .before in
+    let here = told .before .before in
+    let passed = here .before in
+    let start = opened (passed .before .before) in
+    unfit-call places (image start) (areas start) (request start) (answer start) (room (passed .before)) badImage (omega arith)
+    (unfit-image places (image start) (areas start) (request start) (answer start) (asked passed) (λ e. omega arith))
+    (told .refuse2 .ensures)
+
+mul-if4 : tie.Need-mul-if4
+mul-if4 c = search needs
+
+refuse-requires-3 : tie.Need-refuse-requires-3
+refuse-requires-3 c κs = search needs
+
+same-length-3 : tie.Need-same-length-3
+same-length-3 c = search needs
+
+returns-4 : tie.Need-returns-4
+returns-4 c =
+    let told = c .before .before in
+    let here = told .before .before in
+    let passed = here .before in
+    let start = opened (passed .before .before .before) in
+    unfit-call places (image start) (areas start) (request start) (answer start) (room (passed .before .before)) badAreas (omega arith)
+    (unfit-areas places (image start) (areas start) (request start) (answer start) (asked (passed .before)) (sized passed) (λ e. omega arith))
+    (told .refuse3 .ensures)
+
+read-requires : tie.Need-read-requires
+read-requires c κs = search needs
+
+refuse-requires-4 : tie.Need-refuse-requires-4
+refuse-requires-4 c κs = search needs
+
+same-length-4 : tie.Need-same-length-4
+same-length-4 c = search needs
+
+same-length-5 : tie.Need-same-length-5
+same-length-5 c = search needs
+
+returns-5 : tie.Need-returns-5
+returns-5 c =
+    let told = c .before .before in
+    let here = told .before .before in
+    let met = here .before .before in
+    let passed = met .before .before in
+    let start = opened (passed .before .before .before .before) in
+    let bad = read-bad places (image start) (sized (passed .before)) (rw (ap (λ (x : Reading). x .verdict) (met .read .ensures)) at (here .if5 .taken)) in
+    unfit-call places (image start) (areas start) (request start) (answer start) (room (passed .before .before .before)) badTable (omega arith)
+    (unfit-table places (image start) (areas start) (request start) (answer start) (asked (passed .before .before)) (sized (passed .before)) (lent passed) bad)
+    (told .refuse4 .ensures)
+
+request-from-requires : tie.Need-request-from-requires
+request-from-requires c κs = search needs
+
+decide-at-requires : tie.Need-decide-at-requires
+decide-at-requires c κs = search needs
+
+put-answer-requires : tie.Need-put-answer-requires
+put-answer-requires c κs = search needs
+
+cast-result-2 : tie.Need-cast-result-2
+cast-result-2 c = search needs
+
+same-length-6 : tie.Need-same-length-6
+same-length-6 c = search needs
+
+same-length-7 : tie.Need-same-length-7
+same-length-7 c = search needs
+
+returns-6 : tie.Need-returns-6
+returns-6 c =
+    let put = c .before .before .before in
+    let here = put .before .before in
+    let made = here .before .before .before .before in
+    let passed = fitting made in
+    let start = opened (passed .before .before .before .before) in
+    refused-call places (image start) (areas start) (request start) (answer start) (room (passed .before .before .before)) (made .decide-at .result)
+    (fit made) (decided made) (here .if6 .taken) (put .put-answer .ensures)
+
+apply-requires : tie.Need-apply-requires
+apply-requires c κs = search needs
+
+store-requires : tie.Need-store-requires
+store-requires c κs = search needs
+
+put-answer-requires-2 : tie.Need-put-answer-requires-2
+put-answer-requires-2 c κs = search needs
+
+cast-result-3 : tie.Need-cast-result-3
+cast-result-3 c = search needs
+
+same-length-8 : tie.Need-same-length-8
+same-length-8 c = search needs
+
+same-length-9 : tie.Need-same-length-9
+same-length-9 c = search needs
+
+same-length-10 : tie.Need-same-length-10
+same-length-10 c = search needs
+
+returns-7 : tie.Need-returns-7
+returns-7 c =
+    let put = c .before .before in
+    let kept = put .before .before .before .before in
+    let moved = kept .before .before .before .before in
+    let here = moved .before .before in
+    let made = here .before .before .before .before in
+    let passed = fitting made in
+    let start = begun made in
+    let slots : slots (made .decide-at .result .table) ≡ places =
+    ap (λ (d : Decision). length (d .table .tasks)) (decided made) ∙ next-slots places (image start) (request start) (omega arith) (good made .0) in
+    accepted-call places (image start) (areas start) (request start) (answer start) (room (passed .before .before .before)) (made .decide-at .result)
+    (fit made) (decided made) (here .if6 .left) slots (sized (passed .before)) (kept .store .ensures) (moved .apply .ensures) (put .put-answer2 .ensures)
+
+pub kernel-step-spec : {M : Type 1} → statement M
+kernel-step-spec =
+    tie.close
+    (tie.spec
+    cast-result
+    returns
+    refuse-requires
+    same-length
+    returns-2
+    refuse-requires-2
+    same-length-2
+    returns-3
+    mul-if4
+    refuse-requires-3
+    same-length-3
+    returns-4
+    read-requires
+    refuse-requires-4
+    same-length-4
+    same-length-5
+    returns-5
+    request-from-requires
+    decide-at-requires
+    put-answer-requires
+    cast-result-2
+    same-length-6
+    same-length-7
+    returns-6
+    apply-requires
+    store-requires
+    put-answer-requires-2
+    cast-result-3
+    same-length-8
+    same-length-9
+    same-length-10
+    returns-7)
