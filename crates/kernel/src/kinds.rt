@@ -46,33 +46,29 @@ impl Table {
         requires { ⌜ c < places ⌝ }
         ensures { λ r. ⌜ r ≡ Kinds.create self c priority ⌝ }
     {
-        let mut woken = 0;
-        let mut outcome = Outcome::Fault(1);
         let p = priority as usize;
-        if p < PRIORITIES {
-            let tasks = self.tasks;
-            let s = used_slots(tasks);
-            if s < SLOTS {
-                self.tasks[s] = Task {
-                    state: State::Ready,
-                    priority: p as u8,
-                    parent: c as u8 + 1,
-                    outcome: Outcome::Nothing,
-                };
-                woken = s as u8 + 1;
-                outcome = Outcome::Value {
-                    from: 0,
-                    value: s as u32 + 1,
-                };
-            } else {
-                outcome = Outcome::Fault(2);
-            }
+        if PRIORITIES <= p {
+            return self.resumes(Outcome::Fault(1));
         }
+        let tasks = self.tasks;
+        let s = used_slots(tasks);
+        if SLOTS <= s {
+            return self.resumes(Outcome::Fault(2));
+        }
+        self.tasks[s] = Task {
+            state: State::Ready,
+            priority: p as u8,
+            parent: c as u8 + 1,
+            outcome: Outcome::Nothing,
+        };
         Turn {
             table: self,
-            woken,
+            woken: s as u8 + 1,
             state: State::Ready,
-            outcome,
+            outcome: Outcome::Value {
+                from: 0,
+                value: s as u32 + 1,
+            },
             effect: Effect::Keep,
         }
     }
@@ -81,17 +77,10 @@ impl Table {
         requires { ⌜ c < places ⌝ }
         ensures { λ r. ⌜ r ≡ Kinds.myTid self c ⌝ }
     {
-        let outcome = Outcome::Value {
+        self.resumes(Outcome::Value {
             from: 0,
             value: c as u32 + 1,
-        };
-        Turn {
-            table: self,
-            woken: 0,
-            state: State::Ready,
-            outcome,
-            effect: Effect::Keep,
-        }
+        })
     }
 
     pub(crate) fn my_parent_tid(self, c: usize) -> Turn
@@ -99,30 +88,16 @@ impl Table {
         ensures { λ r. ⌜ r ≡ Kinds.myParentTid self c ⌝ }
     {
         let task = self.tasks[c];
-        let outcome = Outcome::Value {
+        self.resumes(Outcome::Value {
             from: 0,
             value: task.parent as u32,
-        };
-        Turn {
-            table: self,
-            woken: 0,
-            state: State::Ready,
-            outcome,
-            effect: Effect::Keep,
-        }
+        })
     }
 
     pub(crate) fn yields(self) -> Turn
         ensures { λ r. ⌜ r ≡ Kinds.yield self ⌝ }
     {
-        let outcome = Outcome::Value { from: 0, value: 0 };
-        Turn {
-            table: self,
-            woken: 0,
-            state: State::Ready,
-            outcome,
-            effect: Effect::Keep,
-        }
+        self.resumes(Outcome::Value { from: 0, value: 0 })
     }
 
     pub(crate) fn exit(self) -> Turn
@@ -208,27 +183,23 @@ impl Table {
                 let tid = q.tids[0];
                 let s = queue::slot(tid);
                 self.senders[c] = q.popped();
+                // A tid past the last slot is read as an unused one, which sends nothing.
+                let mut sender = State::Unused;
                 if s < SLOTS {
                     let task = self.tasks[s];
                     let state = task.state;
-                    let message = message_of(state);
                     self.tasks[s] = task.becomes(
                         State::ReplyBlocked(reply_of(state)),
                         Outcome::Nothing,
                     );
-                    outcome = Outcome::Value {
-                        from: tid,
-                        value: message.len,
-                    };
-                    effect = delivery(s, message, c, b);
-                } else {
-                    // A tid past the last slot is read as an unused one, which sends nothing.
-                    outcome = Outcome::Value {
-                        from: tid,
-                        value: 0,
-                    };
-                    effect = delivery(s, Buffer { start: 0, len: 0 }, c, b);
+                    sender = state;
                 }
+                let message = message_of(sender);
+                outcome = Outcome::Value {
+                    from: tid,
+                    value: message.len,
+                };
+                effect = delivery(s, message, c, b);
             } else {
                 next = State::SendBlocked(b);
                 outcome = Outcome::Nothing;
@@ -294,23 +265,19 @@ impl Table {
         requires { ⌜ c < places ⌝ }
         ensures { λ r. ⌜ r ≡ Kinds.awaitEvent self c event ⌝ }
     {
-        let mut next = State::Ready;
-        let mut outcome = Outcome::Fault(1);
         let e = event as usize;
-        if e < EVENTS {
-            if self.waiters[e] == 0 {
-                self.waiters[e] = c as u8 + 1;
-                next = State::EventBlocked(e as u8);
-                outcome = Outcome::Nothing;
-            } else {
-                outcome = Outcome::Fault(3);
-            }
+        if EVENTS <= e {
+            return self.resumes(Outcome::Fault(1));
         }
+        if self.waiters[e] != 0 {
+            return self.resumes(Outcome::Fault(3));
+        }
+        self.waiters[e] = c as u8 + 1;
         Turn {
             table: self,
             woken: 0,
-            state: next,
-            outcome,
+            state: State::EventBlocked(e as u8),
+            outcome: Outcome::Nothing,
             effect: Effect::Keep,
         }
     }
@@ -322,19 +289,33 @@ impl Table {
     {
         let e = event as usize;
         let tid = self.waiters[e];
-        if 0 < tid {
-            let s = queue::slot(tid);
-            self.waiters[e] = 0;
-            if s < SLOTS {
-                let task = self.tasks[s];
-                self.tasks[s] = task.becomes(State::Ready, told(word));
-            }
+        if tid == 0 {
+            return self.resumes(Outcome::Nothing);
+        }
+        self.waiters[e] = 0;
+        let s = queue::slot(tid);
+        if s < SLOTS {
+            let task = self.tasks[s];
+            self.tasks[s] = task.becomes(State::Ready, told(word));
         }
         Turn {
             table: self,
             woken: tid,
             state: State::Ready,
             outcome: Outcome::Nothing,
+            effect: Effect::Keep,
+        }
+    }
+
+    // Nobody is woken, and the caller goes on with a result.
+    fn resumes(self, outcome: Outcome) -> Turn
+        ensures { λ r. ⌜ r ≡ resumes self outcome ⌝ }
+    {
+        Turn {
+            table: self,
+            woken: 0,
+            state: State::Ready,
+            outcome,
             effect: Effect::Keep,
         }
     }

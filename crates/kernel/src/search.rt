@@ -11,9 +11,9 @@ use crate::parts::state_code;
 use crate::table::SLOTS;
 use crate::table::Task;
 
-// The slot that is active; SLOTS where none is.
-pub fn first_active(tasks: [Task; SLOTS]) -> usize
-    ensures { λ r. ⌜ r ≡ firstBelow places (λ s. isActive (getD tasks s noTask .state)) ⌝ }
+// The first slot whose state has the number; SLOTS where none has.
+fn first_with(tasks: [Task; SLOTS], code: u8) -> usize
+    ensures { λ r. ⌜ r ≡ firstBelow places (λ s. eqb (stateCode (getD tasks s noTask .state)) code) ⌝ }
 {
     let mut s = 0;
     loop {
@@ -22,27 +22,23 @@ pub fn first_active(tasks: [Task; SLOTS]) -> usize
         }
         let task = tasks[s];
         let state = task.state;
-        if state_code(state) == ACTIVE {
+        if state_code(state) == code {
             break s;
         }
         s += 1;
     }
 }
 
+// The slot that is active; SLOTS where none is.
+pub fn first_active(tasks: [Task; SLOTS]) -> usize
+    ensures { λ r. ⌜ r ≡ firstBelow places (λ s. isActive (getD tasks s noTask .state)) ⌝ }
+{
+    first_with(tasks, ACTIVE)
+}
+
 // How many slots are used, which come first.
 pub fn used_slots(tasks: [Task; SLOTS]) -> usize
     ensures { λ r. ⌜ r ≡ firstBelow places (λ s. not (isUsed (getD tasks s noTask .state))) ⌝ }
 {
-    let mut s = 0;
-    loop {
-        if s == SLOTS {
-            break SLOTS;
-        }
-        let task = tasks[s];
-        let state = task.state;
-        if state_code(state) == UNUSED {
-            break s;
-        }
-        s += 1;
-    }
+    first_with(tasks, UNUSED)
 }
