@@ -77,10 +77,17 @@ impl Table {
         requires { ⌜ c < places ⌝ }
         ensures { λ r. ⌜ r ≡ Kinds.myTid self c ⌝ }
     {
-        self.resumes(Outcome::Value {
+        let outcome = Outcome::Value {
             from: 0,
             value: c as u32 + 1,
-        })
+        };
+        Turn {
+            table: self,
+            woken: 0,
+            state: State::Ready,
+            outcome,
+            effect: Effect::Keep,
+        }
     }
 
     pub(crate) fn my_parent_tid(self, c: usize) -> Turn
@@ -88,16 +95,30 @@ impl Table {
         ensures { λ r. ⌜ r ≡ Kinds.myParentTid self c ⌝ }
     {
         let task = self.tasks[c];
-        self.resumes(Outcome::Value {
+        let outcome = Outcome::Value {
             from: 0,
             value: task.parent as u32,
-        })
+        };
+        Turn {
+            table: self,
+            woken: 0,
+            state: State::Ready,
+            outcome,
+            effect: Effect::Keep,
+        }
     }
 
     pub(crate) fn yields(self) -> Turn
         ensures { λ r. ⌜ r ≡ Kinds.yield self ⌝ }
     {
-        self.resumes(Outcome::Value { from: 0, value: 0 })
+        let outcome = Outcome::Value { from: 0, value: 0 };
+        Turn {
+            table: self,
+            woken: 0,
+            state: State::Ready,
+            outcome,
+            effect: Effect::Keep,
+        }
     }
 
     pub(crate) fn exit(self) -> Turn
@@ -183,23 +204,27 @@ impl Table {
                 let tid = q.tids[0];
                 let s = queue::slot(tid);
                 self.senders[c] = q.popped();
-                // A tid past the last slot is read as an unused one, which sends nothing.
-                let mut sender = State::Unused;
                 if s < SLOTS {
                     let task = self.tasks[s];
                     let state = task.state;
+                    let message = message_of(state);
                     self.tasks[s] = task.becomes(
                         State::ReplyBlocked(reply_of(state)),
                         Outcome::Nothing,
                     );
-                    sender = state;
+                    outcome = Outcome::Value {
+                        from: tid,
+                        value: message.len,
+                    };
+                    effect = delivery(s, message, c, b);
+                } else {
+                    // A tid past the last slot is read as an unused one, which sends nothing.
+                    outcome = Outcome::Value {
+                        from: tid,
+                        value: 0,
+                    };
+                    effect = delivery(s, Buffer { start: 0, len: 0 }, c, b);
                 }
-                let message = message_of(sender);
-                outcome = Outcome::Value {
-                    from: tid,
-                    value: message.len,
-                };
-                effect = delivery(s, message, c, b);
             } else {
                 next = State::SendBlocked(b);
                 outcome = Outcome::Nothing;
