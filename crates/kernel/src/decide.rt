@@ -4,7 +4,7 @@ ghost use Prim.Native.Nat.{_<_};
 ghost use Rattle.queue.specs.Row.{places};
 ghost use Rattle.kernel.specs.Table.{areaBytes};
 ghost use Rattle.kernel.specs.Turn.{settled};
-ghost use Rattle.kernel.specs.Refusal.{refusalOf, Enters};
+ghost use Rattle.kernel.specs.Refusal.{refusalOf, Enters, Alone};
 ghost use Rattle.kernel.specs.Decide as Decide;
 ghost use Rattle.kernel.specs.Decide.{refused, turnOf, ownWrite, decideAt};
 use crate::numbers::ACCEPTED;

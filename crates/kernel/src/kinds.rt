@@ -4,6 +4,7 @@ ghost use mathlib.Core.Path.{_≡_};
 ghost use Prim.Native.Nat.{_<_, min};
 ghost use Rattle.queue.specs.Row.{places};
 ghost use Rattle.kernel.specs.Table.{events};
+ghost use Rattle.kernel.specs.Turn.{resumes};
 ghost use Rattle.kernel.specs.Kinds as Kinds;
 use crate::parts::good_buffer;
 use crate::parts::is_alive;

@@ -1,10 +1,11 @@
 // What is found in the tasks by a search: nothing of it is stored.
 ghost use mathlib.Core.Path.{_≡_};
 ghost use mathlib.Core.Bool.{not};
+ghost use lib.Dec.{eqb};
 ghost use lib.ListN.{getD};
 ghost use Rattle.queue.specs.Choose.{firstBelow};
 ghost use Rattle.queue.specs.Row.{places};
-ghost use Rattle.kernel.specs.Table.{noTask, isActive, isUsed};
+ghost use Rattle.kernel.specs.Table.{noTask, stateCode, isActive, isUsed};
 use crate::parts::ACTIVE;
 use crate::parts::UNUSED;
 use crate::parts::state_code;

@@ -2,8 +2,8 @@
 // table in place.
 ghost use mathlib.Core.Path.{_≡_};
 ghost use Rattle.queue.specs.Row.{places};
-ghost use Rattle.kernel.specs.Moves.{joinedTid, leftAs, dispatched};
-ghost use Rattle.kernel.specs.Turn.{tidOf, readyTid, settled};
+ghost use Rattle.kernel.specs.Moves.{joinedTid, dispatched};
+ghost use Rattle.kernel.specs.Turn.{tidOf, Reaches, Rejoins, settled};
 use crate::numbers::ACCEPTED;
 use crate::parts::READY;
 use crate::parts::state_code;
