@@ -73,8 +73,7 @@ pub fn reply_of(state: State) -> Buffer
         target: _,
         message: _,
         reply,
-    } = state
-    {
+    } = state {
         buffer = reply;
     }
     if let State::ReplyBlocked(reply) = state {

@@ -16,7 +16,6 @@ use Rattle.kernel.specs.Table.{noTask, stateCode}
 use Rattle.kernel.proofs.search.first_with.Statement.{statement}
 use Rattle.kernel.proofs.search.first_with.Tie as tie
 
-
 abbrev coded : ℕ → List Task → ℕ → Bool
 coded code tasks s = eqb (stateCode (getD tasks s noTask .state)) code
 

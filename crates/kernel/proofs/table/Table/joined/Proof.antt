@@ -31,8 +31,8 @@ row j =
     let n = slots32 start in
     ⊎-elim (λ w. rw (w .3, w .2 .ensures, found .slot .ensures .0))
     (λ w.
-      let past : length (t .tasks) ≤ start .args .tid - 1 = rw (← found .slot .ensures .0) (omega (arith, w .0 .left)) in
-      rw (w .1, List·getD-eq-default (t .tasks) noTask past))
+    let past : length (t .tasks) ≤ start .args .tid - 1 = rw (← found .slot .ensures .0) (omega (arith, w .0 .left)) in
+    rw (w .1, List·getD-eq-default (t .tasks) noTask past))
     (j .if2 .came)
 
 slot-requires : tie.Need-slot-requires
