@@ -6,6 +6,7 @@ use lib.ListN.{length, getD, set}
 use lib.Dec.{ltb, leb, eqb}
 use Rattle.queue.specs.declared.Queue.{Queue}
 use Rattle.queue.specs.Choose.{firstBelow}
+use Rattle.queue.specs.Row.{places}
 use Rattle.queue.specs.Rows.{rowAt}
 use Rattle.kernel.specs.declared.table.Buffer.{Buffer}
 use Rattle.kernel.specs.declared.table.Outcome.the-variants.{Nothing}
@@ -14,9 +15,9 @@ use Rattle.kernel.specs.declared.table.State.the-variants.{Unused, Activ
 use Rattle.kernel.specs.declared.table.Task.{Task}
 use Rattle.kernel.specs.declared.table.Table.{Table}
 
--- The sizes that the paper names.
+-- The sizes that the paper names. There are as many priorities as slots, so one number gives both.
 abbrev pub priorities : ℕ
-priorities = 32
+priorities = places
 
 abbrev pub events : ℕ
 events = 64

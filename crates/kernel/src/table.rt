@@ -7,7 +7,8 @@ use queue::Queue;
 // A task's slot is its tid less one. Each slot has a place in every queue.
 pub const SLOTS: usize = PLACES;
 
-pub const PRIORITIES: usize = 32;
+// As many as slots: a row for each, in an array of one type.
+pub const PRIORITIES: usize = PLACES;
 
 pub const EVENTS: usize = 64;
 

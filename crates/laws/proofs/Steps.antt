@@ -1,12 +1,12 @@
 -- What is so of every step from a good table, and so of every step of a run.
 use Prim.Native.Nat.{ℕ, _*_, _<_}
-use mathlib.Core.Path.{_≡_}
+use mathlib.Core.Path.{_≡_, refl, sym, ap, _∙_}
 use mathlib.Core.Bool.{true, not}
 use mathlib.Core.List.{List, [], _∷_}
 use native.Mathlib.Omega.{arith}
 use lib.ListN.{length}
 use lib.Dec.{ltb, leb, eqb}
-use borrow.Author.Tests.{ltb-true, leb-true}
+use borrow.Author.Tests.{eq-eqb, ltb-true, leb-true}
 use Rattle.queue.proofs.Below.{both-true}
 use Rattle.kernel.specs.declared.table.Outcome.{Outcome}
 use Rattle.kernel.specs.declared.table.Outcome.the-variants.{Nothing, Value, Fault}
@@ -16,14 +16,16 @@ use Rattle.kernel.specs.declared.table.Decision.{Decision}
 use Rattle.kernel.specs.Numbers.{badAreas}
 use Rattle.kernel.specs.Table.{firstNegative, areaBytes, slots}
 use Rattle.kernel.proofs.Tests.{chosen}
+use Rattle.kernel.specs.Decide.{decide}
 use Rattle.rules.specs.Good.{goodOutcome}
 use Rattle.rules.specs.Facts.{Good}
 use Rattle.rules.proofs.Good.{facts-good}
 use Rattle.rules.proofs.Entries.{Sound}
 use Rattle.rules.proofs.Kept.{unchanged, decide-sound}
 use Rattle.step.specs.Step.{step, after}
-use Rattle.laws.specs.Run.{EveryStep}
+use Rattle.laws.specs.Run.{Run, run, EveryStep}
 use Rattle.laws.specs.Laws.{Told}
+use Rattle.laws.proofs.SameRuns.{length-after}
 
 module _ {n : ℕ} (small : n < firstNegative) where
   pub step-sound : (t : Table) (r : Request) (len : ℕ) → Good n t → Sound n (step t r len)
@@ -40,6 +42,31 @@ module _ {n : ℕ} (small : n < firstNegative) where
   every-step P each (r ∷ rs) t xs good =
       let d = step t r (length xs) in
       (each t r (length xs) good, every-step P each rs (d .table) (after (d .effect) xs) (step-sound t r (length xs) good .good))
+
+-- a run of a good table that is not checked again at each step
+unfoldable pub unchecked : Table → List ℕ → List Request → Run
+unchecked t xs [] = record { decisions = []; areas = xs }
+unchecked t xs (r ∷ rs) =
+    let d = decide t r in
+    let rest = unchecked (d .table) (after (d .effect) xs) rs in
+    record { decisions = d ∷ rest .decisions; areas = rest .areas }
+
+-- a step of a good table, with areas of its size, is its decision
+step-decides : {n : ℕ} (t : Table) (r : Request) (len : ℕ) → Good n t → len ≡ n * areaBytes → step t r len ≡ decide t r
+unfolding step
+step-decides {n} t r len good size =
+    rw (eq-eqb len (slots t * areaBytes) (size ∙ ap (λ (k : ℕ). k * areaBytes) (sym (good .rules .size))), facts-good n t good)
+
+-- it is the same run
+pub run-unchecked : {n : ℕ} → n < firstNegative → (rs : List Request) (t : Table) (xs : List ℕ) → Good n t → length xs ≡ n * areaBytes
+    → run t xs rs ≡ unchecked t xs rs
+unfolding run unchecked
+run-unchecked small [] t xs good size = refl
+run-unchecked {n} small (r ∷ rs) t xs good size =
+    let decided : step t r (length xs) ≡ decide t r = step-decides t r (length xs) good size in
+    let next = decide-sound small good r .good in
+    let rest = run-unchecked small rs (decide t r .table) (after (decide t r .effect) xs) next (length-after (decide t r .effect) xs ∙ size) in
+    rw (decided, rest)
 
 pub told : (n : ℕ) (o : Outcome) → goodOutcome n o ≡ true → Told n o
 told n Nothing h = tt

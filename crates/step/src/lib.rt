@@ -1,5 +1,5 @@
 // One step of a kernel: the check, the decision, and what the decision does to the areas.
-mod areas;
+pub mod areas;
 
 ghost use mathlib.Core.Path.{_≡_};
 ghost use mathlib.Core.Bool.{true};

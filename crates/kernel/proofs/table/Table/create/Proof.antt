@@ -4,18 +4,19 @@ use native.Mathlib.Omega.{arith}
 use lib.ListN.{length}
 use borrow.Author.Needs.{needs}
 use borrow.Author.Tests.{le-leb, lt-leb}
+use Rattle.queue.specs.Row.{places}
 use Rattle.kernel.specs.Table.{priorities, usedSlots}
 use Rattle.kernel.specs.Kinds.{create}
 use Rattle.kernel.proofs.Owned.{owned-shaped}
 use Rattle.kernel.proofs.table.Table.create.Statement.{statement}
 use Rattle.kernel.proofs.table.Table.create.Tie as tie
 
-slots32 : (c : tie.Start) → length (c .args .t1 .tasks) ≡ 32
-slots32 c = owned-shaped (c .args .t1) _ (c .good .0) .tasks
+slots-all : (c : tie.Start) → length (c .args .t1 .tasks) ≡ places
+slots-all c = owned-shaped (c .args .t1) _ (c .good .0) .tasks
 
 found : (p : tie.After-used-slots) → p .used-slots .result ≡ usedSlots (p .before .before .before .args .t1)
 unfolding usedSlots
-found p = rw (slots32 (p .before .before .before)) (p .used-slots .ensures)
+found p = rw (slots-all (p .before .before .before)) (p .used-slots .ensures)
 
 resumes-requires : tie.Need-resumes-requires
 resumes-requires c κs = search needs
@@ -63,7 +64,7 @@ returns-2 c =
     let met = c .before .before in
     let start = met .before .before .before in
     let t = start .args .t1 in
-    let n = slots32 start in
+    let n = slots-all start in
     let first = found met in
     rw (lt-leb priorities (start .args .priority) (omega arith), le-leb (length (t .tasks)) (usedSlots t) (omega arith)) (c .resumes2 .ensures)
 
@@ -72,7 +73,7 @@ unfolding create
 returns-3 c =
     let start = c .before .before .before .before in
     let t = start .args .t1 in
-    let n = slots32 start in
+    let n = slots-all start in
     let first = found (c .before) in
     rw (first, lt-leb priorities (start .args .priority) (omega arith), lt-leb (length (t .tasks)) (usedSlots t) (omega arith))
 

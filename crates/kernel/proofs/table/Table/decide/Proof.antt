@@ -9,12 +9,12 @@ use Rattle.kernel.proofs.Owned.{owned-shaped}
 use Rattle.kernel.proofs.table.Table.decide.Statement.{statement}
 use Rattle.kernel.proofs.table.Table.decide.Tie as tie
 
-slots32 : (c : tie.Start) → length (c .args .self .tasks) ≡ places
-slots32 c = owned-shaped (c .args .self) _ (c .good .0) .tasks
+slots-all : (c : tie.Start) → length (c .args .self .tasks) ≡ places
+slots-all c = owned-shaped (c .args .self) _ (c .good .0) .tasks
 
 found : (p : tie.After-first-active) → p .first-active .result ≡ activeSlot (p .before .before .args .self)
 unfolding activeSlot
-found p = rw (slots32 (p .before .before)) (p .first-active .ensures)
+found p = rw (slots-all (p .before .before)) (p .first-active .ensures)
 
 first-active-requires : tie.Need-first-active-requires
 first-active-requires c κs = search needs

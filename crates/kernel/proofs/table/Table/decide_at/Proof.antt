@@ -13,8 +13,8 @@ use Rattle.kernel.proofs.Refusals.{Fine, fine}
 use Rattle.kernel.proofs.table.Table.decide_at.Statement.{statement}
 use Rattle.kernel.proofs.table.Table.decide_at.Tie as tie
 
-slots32 : (c : tie.Start) → length (c .args .self .tasks) ≡ places
-slots32 c = owned-shaped (c .args .self) _ (c .good .0) .tasks
+slots-all : (c : tie.Start) → length (c .args .self .tasks) ≡ places
+slots-all c = owned-shaped (c .args .self) _ (c .good .0) .tasks
 
 none : (p : tie.Else1) → refusalOf places (p .before .before .args .a) (p .before .before .args .r) ≡ accepted
 none p = sym (p .before .refusal .ensures) ∙ omega arith
@@ -36,7 +36,7 @@ unfolding decideAt
 returns c =
     let asked = c .before .before .before in
     let start = asked .before in
-    rw (c .refused .ensures, slots32 start, ← asked .refusal .ensures, lt-ltb accepted (asked .refusal .result) (omega arith), c .before .tid-of .ensures)
+    rw (c .refused .ensures, slots-all start, ← asked .refusal .ensures, lt-ltb accepted (asked .refusal .result) (omega arith), c .before .tid-of .ensures)
 
 own-write-requires : tie.Need-own-write-requires
 own-write-requires c κs =
@@ -51,14 +51,14 @@ unfolding decideAt
 returns-2 c =
     let passed = c .before .before in
     let start = passed .before .before in
-    rw (c .own-write .ensures, slots32 start, none passed, c .before .if2 .taken)
+    rw (c .own-write .ensures, slots-all start, none passed, c .before .if2 .taken)
 
 returns-3 : tie.Need-returns-3
 unfolding decideAt
 returns-3 c =
     let passed = c .before .before in
     let start = passed .before .before in
-    rw (c .entered .ensures, slots32 start, none passed, ne-eqb (start .args .r .kind) ownWriteKind (c .before .if2 .left))
+    rw (c .entered .ensures, slots-all start, none passed, ne-eqb (start .args .r .kind) ownWriteKind (c .before .if2 .left))
 
 pub decide-at-spec : {M : Type 1} → statement M
 decide-at-spec =

@@ -6,14 +6,15 @@ use lib.ListN.{length}
 use lib.Seq.{set-out}
 use borrow.Author.Needs.{needs}
 use borrow.Author.Tests.{ne-eqb}
+use Rattle.queue.specs.Row.{places}
 use Rattle.kernel.specs.Table.{waiterAt}
 use Rattle.kernel.specs.Kinds as Kinds
 use Rattle.kernel.proofs.Owned.{owned-shaped}
 use Rattle.kernel.proofs.table.Table.event.Statement.{statement}
 use Rattle.kernel.proofs.table.Table.event.Tie as tie
 
-slots32 : (c : tie.Start) → length (c .args .t1 .tasks) ≡ 32
-slots32 c = owned-shaped (c .args .t1) _ (c .good .0) .tasks
+slots-all : (c : tie.Start) → length (c .args .t1 .tasks) ≡ places
+slots-all c = owned-shaped (c .args .t1) _ (c .good .0) .tasks
 
 element-copy-out-tid : tie.Need-element-copy-out-tid
 element-copy-out-tid c = search needs
@@ -68,7 +69,7 @@ returns-3 c =
     let start = found .before .before .before in
     let t = start .args .t1 in
     let w = waiterAt t (start .args .event) in
-    let n = slots32 start in
+    let n = slots-all start in
     let past : length (t .tasks) ≤ w - 1 = rw (← found .slot .ensures .0) (omega arith) in
     rw (ne-eqb w 0 (found .before .if1 .left), set-out (t .tasks) (w - 1) _ past)
 

@@ -9,17 +9,18 @@ use lib.Seq.{set-out}
 use lib.Dec.{eqb}
 use borrow.Author.Needs.{needs}
 use borrow.Author.Tests.{ne-eqb}
+use Rattle.queue.specs.Row.{places}
 use Rattle.kernel.specs.Moves.{joinedTid, joined}
 use Rattle.kernel.specs.Table.{noTask, taskAt}
 use Rattle.kernel.proofs.Owned.{owned-shaped}
 use Rattle.kernel.proofs.table.Table.joined.Statement.{statement}
 use Rattle.kernel.proofs.table.Table.joined.Tie as tie
 
-slots32 : (c : tie.Start) → length (c .args .t1 .tasks) ≡ 32
-slots32 c = owned-shaped (c .args .t1) _ (c .good .0) .tasks
+slots-all : (c : tie.Start) → length (c .args .t1 .tasks) ≡ places
+slots-all c = owned-shaped (c .args .t1) _ (c .good .0) .tasks
 
-rows32 : (c : tie.Start) → length (c .args .t1 .ready) ≡ 32
-rows32 c = owned-shaped (c .args .t1) _ (c .good .0) .ready .count
+rows-all : (c : tie.Start) → length (c .args .t1 .ready) ≡ places
+rows-all c = owned-shaped (c .args .t1) _ (c .good .0) .ready .count
 
 -- the row that is joined is that of the task's priority, which is 0 for a slot past the last
 row : (j : tie.Joined2) → let start = j .before .before .before in
@@ -28,7 +29,7 @@ row j =
     let found = j .before in
     let start = found .before .before in
     let t = start .args .t1 in
-    let n = slots32 start in
+    let n = slots-all start in
     ⊎-elim (λ w. rw (w .3, w .2 .ensures, found .slot .ensures .0))
     (λ w.
     let past : length (t .tasks) ≤ start .args .tid - 1 = rw (← found .slot .ensures .0) (omega (arith, w .0 .left)) in
@@ -78,7 +79,7 @@ returns-2 c =
     let start = at .before .before .before in
     let t = start .args .t1 in
     let tid = start .args .tid in
-    let n = rows32 start in
+    let n = rows-all start in
     let some : eqb tid 0 ≡ false = ne-eqb tid 0 (λ e. omega arith) in
     let past : length (t .ready) ≤ taskAt t (tid - 1) .priority = rw (← row at) (omega arith) in
     rw (some, set-out (t .ready) (taskAt t (tid - 1) .priority) _ past)

@@ -7,7 +7,7 @@ use lib.ListN.{length, List·getD-eq-default}
 use lib.Seq.{set-out}
 use borrow.Author.Needs.{needs}
 use borrow.Author.Tests.{lt-ltb, le-ltb}
-use Rattle.queue.specs.Row.{placeAt}
+use Rattle.queue.specs.Row.{places, placeAt}
 use Rattle.kernel.specs.Table.{noTask, sendersRow, goodBuffer}
 use Rattle.kernel.specs.Moves.{received}
 use Rattle.kernel.specs.Kinds.{receive}
@@ -15,8 +15,8 @@ use Rattle.kernel.proofs.Owned.{owned-shaped}
 use Rattle.kernel.proofs.table.Table.receive.Statement.{statement}
 use Rattle.kernel.proofs.table.Table.receive.Tie as tie
 
-slots32 : (c : tie.Start) → length (c .args .t1 .tasks) ≡ 32
-slots32 c = owned-shaped (c .args .t1) _ (c .good .0) .tasks
+slots-all : (c : tie.Start) → length (c .args .t1 .tasks) ≡ places
+slots-all c = owned-shaped (c .args .t1) _ (c .good .0) .tasks
 
 -- a head that names no slot is read as an unused one, and stores nothing
 returns-2 : tie.Need-returns-2
@@ -29,7 +29,7 @@ returns-2 c =
     let start = asked .before in
     let t = start .args .t1 in
     let h = placeAt (sendersRow t (start .args .c)) 0 in
-    let n = slots32 start in
+    let n = slots-all start in
     let past : length (t .tasks) ≤ h - 1 = rw (← found .slot .ensures .0) (omega arith) in
     let good : goodBuffer (start .args .b) ≡ true = sym (asked .good-buffer .ensures) ∙ some .before .before .if1 .taken in
     rw (c .delivery2 .ensures, left .popped .ensures, found .slot .ensures .0, good, lt-ltb 0 (sendersRow t (start .args .c) .len) (some .if2 .taken), List·getD-eq-default (t .tasks) noTask past, set-out (t .tasks) (h - 1) _ past)

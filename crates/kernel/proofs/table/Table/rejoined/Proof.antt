@@ -8,6 +8,7 @@ use lib.Seq.{getD-set-same}
 use borrow.Author.Needs.{needs}
 use borrow.Author.Tests.{eq-eqb, ne-eqb}
 use Rattle.queue.specs.Rows.{noRow}
+use Rattle.queue.specs.Row.{places}
 use Rattle.kernel.specs.Table.{isReady, taskAt, readyRow}
 use Rattle.kernel.specs.Shape.{Shaped}
 use Rattle.kernel.proofs.Owned.{owned-shaped}
@@ -15,7 +16,7 @@ use Rattle.kernel.proofs.Rejoin.{caller-joins, caller-passes, caller-st
 use Rattle.kernel.proofs.table.Table.rejoined.Statement.{statement}
 use Rattle.kernel.proofs.table.Table.rejoined.Tie as tie
 
-shape : (c : tie.Start) → Shaped 32 (c .args .t1)
+shape : (c : tie.Start) → Shaped places (c .args .t1)
 shape c = owned-shaped (c .args .t1) _ (c .good .0)
 
 sub-last : tie.Need-sub-last

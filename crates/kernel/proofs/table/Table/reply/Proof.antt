@@ -7,6 +7,7 @@ use native.Mathlib.Omega.{arith}
 use lib.ListN.{length, List·getD-eq-default}
 use borrow.Author.Needs.{needs}
 use borrow.Author.Tests.{le-leb, lt-leb}
+use Rattle.queue.specs.Row.{places}
 use Rattle.kernel.specs.Table.{goodBuffer}
 use Rattle.kernel.specs.Kinds.{reply, alive}
 use Rattle.kernel.proofs.Owned.{owned-shaped}
@@ -14,8 +15,8 @@ use Rattle.kernel.proofs.States.{other-state}
 use Rattle.kernel.proofs.table.Table.reply.Statement.{statement}
 use Rattle.kernel.proofs.table.Table.reply.Tie as tie
 
-slots32 : (c : tie.Start) → length (c .args .t1 .tasks) ≡ 32
-slots32 c = owned-shaped (c .args .t1) _ (c .good .0) .tasks
+slots-all : (c : tie.Start) → length (c .args .t1 .tasks) ≡ places
+slots-all c = owned-shaped (c .args .t1) _ (c .good .0) .tasks
 
 living : (p : tie.Then3) → alive (p .before .before .before .before .before .args .t1) (p .before .before .before .before .before .args .target) ≡ true
 living p =
@@ -90,7 +91,7 @@ returns-5 : tie.Need-returns-5
 unfolding reply
 returns-5 c =
     let start = c .before .before in
-    let n = slots32 start in
+    let n = slots-all start in
     let past : length (start .args .t1 .tasks) ≤ start .args .target - 1 = omega arith in
     rw (le-leb 1 (start .args .target) (omega arith), List·getD-eq-default (start .args .t1 .tasks) _ past)
 

@@ -8,6 +8,7 @@ use lib.ListN.{length, List·getD-eq-default}
 use lib.Dec.{eqb}
 use borrow.Author.Needs.{needs}
 use borrow.Author.Tests.{le-leb, lt-leb, eq-eqb, ne-eqb}
+use Rattle.queue.specs.Row.{places}
 use Rattle.kernel.specs.Kinds.{send, alive}
 use Rattle.kernel.specs.Table.{goodBuffer}
 use Rattle.kernel.specs.Moves.{queued}
@@ -16,8 +17,8 @@ use Rattle.kernel.proofs.States.{other-state}
 use Rattle.kernel.proofs.table.Table.send.Statement.{statement}
 use Rattle.kernel.proofs.table.Table.send.Tie as tie
 
-slots32 : (c : tie.Start) → length (c .args .t1 .tasks) ≡ 32
-slots32 c = owned-shaped (c .args .t1) _ (c .good .0) .tasks
+slots-all : (c : tie.Start) → length (c .args .t1 .tasks) ≡ places
+slots-all c = owned-shaped (c .args .t1) _ (c .good .0) .tasks
 
 living : (p : tie.Then3) → alive (p .before .before .before .before .before .args .t1) (p .before .before .before .before .before .args .target) ≡ true
 living p =
@@ -152,7 +153,7 @@ returns-7 : tie.Need-returns-7
 unfolding send
 returns-7 c =
     let start = c .before .before in
-    let n = slots32 start in
+    let n = slots-all start in
     let past : length (start .args .t1 .tasks) ≤ start .args .target - 1 = omega arith in
     rw (le-leb 1 (start .args .target) (omega arith), List·getD-eq-default (start .args .t1 .tasks) _ past)
 

@@ -1,0 +1,52 @@
+-- The bytes of an answer tell a fault from a value.
+use Prim.Native.Nat.{ℕ}
+use native.Mathlib.Omega.{arith}
+use mathlib.Core.Path.{_≡_, refl}
+use mathlib.Core.Bool.{true}
+use lib.Dec.{ltb, leb}
+use borrow.Author.Tests.{ltb-true, leb-true}
+use Rattle.queue.proofs.Below.{both-true}
+use Rattle.kernel.specs.declared.table.Answer.{Answer}
+use Rattle.kernel.specs.declared.table.Outcome.{Outcome}
+use Rattle.kernel.specs.declared.table.Outcome.the-variants.{Nothing, Value, Fault}
+use Rattle.kernel.specs.Table.{firstNegative}
+use Rattle.rules.specs.Good.{goodOutcome}
+use Rattle.image.specs.Call.{answerBytes}
+use Rattle.image.specs.Shown.{Shown}
+
+shows : (used verdict next : ℕ) (o : Outcome) → goodOutcome used o ≡ true
+    → Shown (record { verdict = verdict; next = next; outcome = o })
+unfolding answerBytes
+shows used verdict next Nothing h =
+    record {
+      kind = omega arith;
+      nothing = λ _. (refl, refl);
+      value = λ e. omega arith;
+      fault = (λ e. omega arith, λ e. omega arith);
+      alone = λ e. omega arith;
+    }
+shows used verdict next (Value from v) h =
+    let (low, _) = both-true (ltb v firstNegative) (leb from used) h in
+    let small = ltb-true v firstNegative low in
+    record {
+      kind = omega arith;
+      nothing = λ e. absurd (omega arith);
+      value = λ e. omega arith;
+      fault = (λ e. omega arith, λ e. omega arith);
+      alone = λ e. omega arith;
+    }
+shows used verdict next (Fault f) h =
+    let (least, most) = both-true (leb 1 f) (leb f 3) h in
+    let one = leb-true 1 f least in
+    let three = leb-true f 3 most in
+    record {
+      kind = omega arith;
+      nothing = λ e. absurd (omega arith);
+      value = λ e. omega arith;
+      fault = (λ e. omega arith, λ e. omega arith);
+      alone = λ e. refl;
+    }
+
+-- where the outcome keeps the rules, its kind, its word and its sender in the answer say which it is
+pub shown : (used : ℕ) (a : Answer) → goodOutcome used (a .outcome) ≡ true → Shown a
+shown used a h = shows used (a .verdict) (a .next) (a .outcome) h

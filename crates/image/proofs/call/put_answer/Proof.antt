@@ -1,0 +1,78 @@
+-- `image::call::put_answer` meets its contract, word by word.
+use borrow.Author.Tests.{eq-eqb, ne-eqb}
+use Rattle.image.specs.Call.{answerLength}
+use Rattle.image.proofs.Made.{answer-made}
+use Prim.Native.Nat.{ℕ, _+_, _-_, _*_, _≤_, _<_}
+use mathlib.Core.Path.{_≡_}
+use native.Mathlib.Omega.{arith}
+use lib.ListN.{length, getD, set, take, drop}
+use borrow.Author.Needs.{needs}
+use Rattle.image.proofs.call.put_answer.Statement.{statement}
+use Rattle.image.proofs.call.put_answer.Tie as tie
+
+told-of-requires : tie.Need-told-of-requires
+told-of-requires c κs = search needs
+
+cast-put-word : tie.Need-cast-put-word
+cast-put-word c = search needs
+
+put-word-requires : tie.Need-put-word-requires
+put-word-requires c κs = search needs
+
+cast-put-word-2 : tie.Need-cast-put-word-2
+cast-put-word-2 c = search needs
+
+put-word-requires-2 : tie.Need-put-word-requires-2
+put-word-requires-2 c κs = search needs
+
+cast-put-word-3 : tie.Need-cast-put-word-3
+cast-put-word-3 c = search needs
+
+put-word-requires-3 : tie.Need-put-word-requires-3
+put-word-requires-3 c κs = search needs
+
+put-word-requires-4 : tie.Need-put-word-requires-4
+put-word-requires-4 c κs = search needs
+
+cast-put-word-4 : tie.Need-cast-put-word-4
+cast-put-word-4 c = search needs
+
+put-word-requires-5 : tie.Need-put-word-requires-5
+put-word-requires-5 c κs = search needs
+
+same-length : tie.Need-same-length
+same-length c = search needs
+
+returns : tie.Need-returns
+returns c = let w5 = c .before .before in
+    let w4 = w5 .before .before .before .before .before in
+    let w3 = w4 .before .before .before .before in
+    let w2 = w3 .before .before .before .before .before in
+    let w1 = w2 .before .before .before .before .before in
+    let told = w1 .before .before .before in
+    let start = told .before .before .before in
+    let whole : length (start .args .out .now) ≡ answerLength = told .before .if1 .taken in
+    rw (eq-eqb _ answerLength whole)
+    (answer-made (start .args .answer) (start .args .out .now) _ _ _ _ _ _ whole (told .told-of .ensures)
+    (w1 .put-word .ensures) (w2 .put-word2 .ensures) (w3 .put-word3 .ensures) (w4 .put-word4 .ensures) (w5 .put-word5 .ensures))
+
+returns-2 : tie.Need-returns-2
+returns-2 c = rw (ne-eqb (length (c .before .before .args .out .now)) answerLength (c .if1 .left))
+
+pub put-answer-spec : {M : Type 1} → statement M
+put-answer-spec =
+    tie.close
+    (tie.spec
+    told-of-requires
+    cast-put-word
+    put-word-requires
+    cast-put-word-2
+    put-word-requires-2
+    cast-put-word-3
+    put-word-requires-3
+    put-word-requires-4
+    cast-put-word-4
+    put-word-requires-5
+    same-length
+    returns
+    returns-2)

@@ -1,0 +1,63 @@
+-- `image::call::request_from` meets its contract, word by word.
+use borrow.Author.Tests.{eq-eqb, ne-eqb}
+use Rattle.image.specs.Call.{requestLength, requestFrom}
+use Prim.Native.Nat.{ℕ, _+_, _-_, _*_, _≤_, _<_}
+use mathlib.Core.Path.{_≡_}
+use native.Mathlib.Omega.{arith}
+use lib.ListN.{length, getD, set, take, drop}
+use borrow.Author.Needs.{needs}
+use Rattle.image.proofs.call.request_from.Statement.{statement}
+use Rattle.image.proofs.call.request_from.Tie as tie
+
+returns : tie.Need-returns
+unfolding requestFrom
+returns c = rw (ne-eqb (length (c .before .before .args .bytes .now)) requestLength (c .if1 .taken))
+
+word-in-requires : tie.Need-word-in-requires
+word-in-requires c κs = search needs
+
+word-in-requires-2 : tie.Need-word-in-requires-2
+word-in-requires-2 c κs = search needs
+
+word-in-requires-3 : tie.Need-word-in-requires-3
+word-in-requires-3 c κs = search needs
+
+word-in-requires-4 : tie.Need-word-in-requires-4
+word-in-requires-4 c κs = search needs
+
+word-in-requires-5 : tie.Need-word-in-requires-5
+word-in-requires-5 c κs = search needs
+
+word-in-requires-6 : tie.Need-word-in-requires-6
+word-in-requires-6 c κs = search needs
+
+returns-2 : tie.Need-returns-2
+unfolding requestFrom
+returns-2 c = let w5 = c .before in
+    let w4 = w5 .before in
+    let w3 = w4 .before in
+    let w2 = w3 .before in
+    let w1 = w2 .before in
+    let whole : length (w1 .before .before .before .args .bytes .now) ≡ requestLength = omega arith in
+    rw (eq-eqb _ requestLength whole)
+    (λ i. record {
+      kind = w1 .word-in .ensures i;
+      arg0 = w2 .word-in2 .ensures i;
+      arg1 = w3 .word-in3 .ensures i;
+      arg2 = w4 .word-in4 .ensures i;
+      arg3 = w5 .word-in5 .ensures i;
+      arg4 = c .word-in6 .ensures i;
+    })
+
+pub request-from-spec : {M : Type 1} → statement M
+request-from-spec =
+    tie.close
+    (tie.spec
+    returns
+    word-in-requires
+    word-in-requires-2
+    word-in-requires-3
+    word-in-requires-4
+    word-in-requires-5
+    word-in-requires-6
+    returns-2)

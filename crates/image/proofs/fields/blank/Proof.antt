@@ -1,0 +1,51 @@
+-- `image::fields::blank` meets its contract. The loop's invariant: the first i bytes were looked at.
+use mathlib.Core.Path.{refl, _≡_}
+use lib.Dec.{eqb}
+use Rattle.queue.specs.Choose.{allBelow}
+use Rattle.queue.proofs.Below.{all-more}
+use Rattle.image.specs.Record.{recordLength}
+use Prim.Native.Nat.{ℕ, _+_, _-_, _*_, _≤_, _<_}
+use native.Mathlib.Omega.{arith}
+use lib.ListN.{length, getD, set, take, drop}
+use borrow.Author.Needs.{needs}
+use Rattle.image.proofs.fields.blank.Statement.{statement}
+use Rattle.image.proofs.fields.blank.Tie as tie
+
+abbrev Inv-loop : tie.InvT-loop
+Inv-loop r blank₀ i₀ blank i = (i ≤ recordLength) × (blank ≡ allBelow i (λ k. eqb (getD r k 0) 0))
+
+abbrev μ-loop : tie.MeasureT-loop
+μ-loop r blank₀ i₀ blank i = recordLength - i
+
+loop-holds : tie.Need-loop-holds Inv-loop μ-loop
+unfolding allBelow
+loop-holds c = (search needs, refl)
+
+shared-slice-read-blank : tie.Need-shared-slice-read-blank Inv-loop μ-loop
+shared-slice-read-blank c = search needs
+
+add-i : tie.Need-add-i Inv-loop μ-loop
+add-i c = search needs
+
+loop-less : tie.Need-loop-less Inv-loop μ-loop
+loop-less c = search needs
+
+loop-again : tie.Need-loop-again Inv-loop μ-loop
+loop-again c = (omega arith, rw (c .before .before .loop .inv .1, all-more))
+
+returns : tie.Need-returns Inv-loop μ-loop
+returns c = let end : c .before .loop .i ≡ recordLength = omega arith in
+    rw end at (c .before .loop .inv .1)
+
+pub blank-spec : {M : Type 1} → statement M
+blank-spec =
+    tie.close
+    (tie.spec
+    Inv-loop
+    μ-loop
+    loop-holds
+    shared-slice-read-blank
+    add-i
+    loop-less
+    loop-again
+    returns)

@@ -1,0 +1,94 @@
+-- `image::fields::entry_of` meets its contract, part by part.
+use Rattle.image.proofs.Made.{entry-made}
+use Rattle.image.specs.Record.{taskFrom}
+use Rattle.image.specs.Exact.{exactRecord}
+use Prim.Native.Nat.{ℕ, _+_, _-_, _*_, _≤_, _<_}
+use mathlib.Core.Path.{_≡_}
+use native.Mathlib.Omega.{arith}
+use lib.ListN.{length, getD, set, take, drop}
+use borrow.Author.Needs.{needs}
+use Rattle.image.proofs.fields.entry_of.Statement.{statement}
+use Rattle.image.proofs.fields.entry_of.Tie as tie
+
+shared-slice-read-if1 : tie.Need-shared-slice-read-if1
+shared-slice-read-if1 c = search needs
+
+no-task-requires : tie.Need-no-task-requires
+no-task-requires c κs = search needs
+
+blank-requires : tie.Need-blank-requires
+blank-requires c κs = search needs
+
+returns : tie.Need-returns
+unfolding taskFrom exactRecord
+returns c = rw (c .before .before .if1 .taken) (λ i. record { task = c .before .no-task .ensures i; exact = c .blank .ensures i })
+
+parts-in-requires : tie.Need-parts-in-requires
+parts-in-requires c κs = search needs
+
+told-in-requires : tie.Need-told-in-requires
+told-in-requires c κs = search needs
+
+state-from-requires : tie.Need-state-from-requires
+state-from-requires c κs = search needs
+
+outcome-from-requires : tie.Need-outcome-from-requires
+outcome-from-requires c κs = search needs
+
+shared-slice-read-t9 : tie.Need-shared-slice-read-t9
+shared-slice-read-t9 c = search needs
+
+shared-slice-read-t15 : tie.Need-shared-slice-read-t15
+shared-slice-read-t15 c = search needs
+
+parts-of-requires : tie.Need-parts-of-requires
+parts-of-requires c κs = search needs
+
+same-parts-requires : tie.Need-same-parts-requires
+same-parts-requires c κs = search needs
+
+told-of-requires : tie.Need-told-of-requires
+told-of-requires c κs = search needs
+
+same-told-requires : tie.Need-same-told-requires
+same-told-requires c κs = search needs
+
+exact-rest-requires : tie.Need-exact-rest-requires
+exact-rest-requires c κs = search needs
+
+returns-2 : tie.Need-returns-2
+returns-2 c = let told = c .before .before in
+    let parted = told .before .before in
+    let from = parted .before .before .before in
+    let read = from .before .before in
+    entry-made (read .before .before .before .before .before .args .r .now) _ _ _ _ _ _ _ _ _ (read .before .before .if1 .left)
+    (read .before .parts-in .ensures)
+    (read .told-in .ensures)
+    (from .before .state-from .ensures)
+    (from .outcome-from .ensures)
+    (parted .parts-of .ensures)
+    (told .before .same-parts .ensures)
+    (told .told-of .ensures)
+    (c .before .same-told .ensures)
+    (c .exact-rest .ensures)
+
+pub entry-of-spec : {M : Type 1} → statement M
+entry-of-spec =
+    tie.close
+    (tie.spec
+    shared-slice-read-if1
+    no-task-requires
+    blank-requires
+    returns
+    parts-in-requires
+    told-in-requires
+    state-from-requires
+    outcome-from-requires
+    shared-slice-read-t9
+    shared-slice-read-t15
+    parts-of-requires
+    same-parts-requires
+    told-of-requires
+    same-told-requires
+    exact-rest-requires
+    returns-2)

@@ -1,0 +1,20 @@
+-- `image::stored::refused` meets its contract: where every slot is unused, none is active.
+use Rattle.queue.specs.Choose.{firstFrom}
+use Rattle.kernel.specs.Table.{activeSlot}
+use Prim.Native.Nat.{ℕ, _+_, _-_, _*_, _≤_, _<_}
+use mathlib.Core.Path.{_≡_}
+use native.Mathlib.Omega.{arith}
+use lib.ListN.{length, getD, set, take, drop}
+use borrow.Author.Needs.{needs}
+use Rattle.image.proofs.stored.refused.Statement.{statement}
+use Rattle.image.proofs.stored.refused.Tie as tie
+
+unused-table-requires : tie.Need-unused-table-requires
+unused-table-requires c κs = search needs
+
+returns : tie.Need-returns
+unfolding activeSlot firstFrom
+returns c = λ i. record { table = c .unused-table .ensures i; active = 32; verdict = c .before .args .verdict }
+
+pub refused-spec : {M : Type 1} → statement M
+refused-spec = tie.close (tie.spec unused-table-requires returns)

@@ -1,0 +1,53 @@
+-- `image::stored::write` meets its contract, refusal by refusal.
+use mathlib.Core.Path.{sym, ap, _∙_, _≡_}
+use borrow.Author.Tests.{not-true, not-false}
+use Rattle.queue.specs.Row.{places}
+use Rattle.rules.specs.declared.Checked.{Checked}
+use Rattle.kernel.specs.Table.{slots}
+use Rattle.kernel.proofs.Owned.{owned-shaped}
+use Rattle.image.specs.Record.{recordLength}
+use Rattle.image.proofs.Made.{write-short, write-bad, write-good}
+use Prim.Native.Nat.{ℕ, _+_, _-_, _*_, _≤_, _<_}
+use native.Mathlib.Omega.{arith}
+use lib.ListN.{length, getD, set, take, drop}
+use borrow.Author.Needs.{needs}
+use Rattle.image.proofs.stored.write.Statement.{statement}
+use Rattle.image.proofs.stored.write.Tie as tie
+
+sized : (c : tie.Start) → slots (c .args .table) ≡ places
+sized c = owned-shaped (c .args .table) _ (c .good .0) .tasks
+
+returns : tie.Need-returns
+returns c = let start = c .before .before in
+    let count = sized start in
+    write-short (start .args .table) (start .args .out .now) (λ e. c .if1 .taken (e ∙ rw count))
+
+check-requires : tie.Need-check-requires
+check-requires c κs = search needs
+
+returns-2 : tie.Need-returns-2
+returns-2 c = let checked = c .before .before in
+    let start = checked .before .before .before in
+    let count = sized start in
+    let good = ap (λ (k : Checked). k .good) (checked .check .ensures) in
+    let whole : length (start .args .out .now) ≡ slots (start .args .table) * recordLength = rw count (checked .before .if1 .left) in
+    write-bad (start .args .table) (start .args .out .now) whole (sym good ∙ not-true (checked .check .result .good) (c .if2 .taken))
+
+store-requires : tie.Need-store-requires
+store-requires c κs = search needs
+
+same-length : tie.Need-same-length
+same-length c = search needs
+
+returns-3 : tie.Need-returns-3
+returns-3 c = let stored = c .before .before in
+    let checked = stored .before .before .before .before in
+    let start = checked .before .before .before in
+    let count = sized start in
+    let good = ap (λ (k : Checked). k .good) (checked .check .ensures) in
+    let whole : length (start .args .out .now) ≡ slots (start .args .table) * recordLength = rw count (checked .before .if1 .left) in
+    write-good (start .args .table) (start .args .out .now) whole _ (sym good ∙ not-false (checked .check .result .good) (stored .before .before .if2 .left)) (stored .store .ensures)
+
+pub write-spec : {M : Type 1} → statement M
+write-spec =
+    tie.close (tie.spec returns check-requires returns-2 store-requires same-length returns-3)

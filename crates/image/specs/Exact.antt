@@ -1,0 +1,57 @@
+-- Whether a record is what its task is written as, told from the record alone. `proofs/Exact` shows that a good table whose
+-- records are all exact is written as the bytes that it was read from, so that nothing is written again to compare.
+use Prim.Native.Nat.{ℕ}
+use mathlib.Core.Bool.{Bool, _&&_, _||_}
+use mathlib.Core.List.{List}
+use lib.ListN.{length, getD}
+use lib.Dec.{eqb}
+use Rattle.queue.specs.Choose.{choose, allBelow}
+use Rattle.image.specs.declared.fields.Parts.{Parts}
+use Rattle.image.specs.declared.fields.Told.{Told}
+use Rattle.image.specs.declared.fields.Entry.{Entry}
+use Rattle.image.specs.declared.stored.Decoded.{Decoded}
+use Rattle.image.specs.Bytes.{recordAt}
+use Rattle.image.specs.Told.{toldOf}
+use Rattle.image.specs.Record.{recordLength, atState, atPlace, atSpare, byteIn, partsOf, partsIn, toldIn, stateFrom, outcomeFrom, taskFrom}
+use Rattle.image.specs.Image.{tableOf}
+
+abbrev pub sameParts : Parts → Parts → Bool
+sameParts p q =
+    eqb (p .code) (q .code)
+    && eqb (p .awaited) (q .awaited)
+    && eqb (p .message .start) (q .message .start)
+    && eqb (p .message .len) (q .message .len)
+    && eqb (p .reply .start) (q .reply .start)
+    && eqb (p .reply .len) (q .reply .len)
+
+abbrev pub sameTold : Told → Told → Bool
+sameTold p q = eqb (p .kind) (q .kind) && eqb (p .from) (q .from) && eqb (p .word) (q .word)
+
+-- a place stands only where the task stands in a queue, and the spare byte is 0
+abbrev pub exactRest : List ℕ → Bool
+exactRest r =
+    (eqb (byteIn r atState) 2 || eqb (byteIn r atState) 4 || eqb (byteIn r atPlace) 0) && eqb (byteIn r atSpare) 0
+
+-- a used record gives its task's numbers again
+abbrev pub exactUsed : List ℕ → Bool
+exactUsed r =
+    sameParts (partsOf (stateFrom (partsIn r))) (partsIn r)
+    && sameTold (toldOf (outcomeFrom (toldIn r))) (toldIn r)
+    && exactRest r
+
+-- an unused record is all zero
+unfoldable pub exactRecord : List ℕ → Bool
+exactRecord r =
+    choose (eqb (byteIn r atState) 0)
+    (allBelow recordLength (λ i. eqb (getD r i 0) 0))
+    (exactUsed r)
+
+abbrev pub entryOf : List ℕ → Entry
+entryOf r = record { task = taskFrom r; exact = exactRecord r }
+
+-- the first k records are exact
+abbrev pub exactUpTo : List ℕ → ℕ → Bool
+exactUpTo bytes k = allBelow k (λ s. exactRecord (recordAt recordLength bytes s))
+
+abbrev pub decodedOf : ℕ → List ℕ → Decoded
+decodedOf n bytes = record { table = tableOf n bytes; exact = exactUpTo bytes n }

@@ -1,0 +1,336 @@
+// The record of a task: its fields, and the task that they give.
+use crate::numbers::short_in;
+use crate::numbers::word_in;
+use kernel::parts::ACTIVE;
+use kernel::parts::EVENT_BLOCKED;
+use kernel::parts::EXITED;
+use kernel::parts::READY;
+use kernel::parts::RECEIVE_BLOCKED;
+use kernel::parts::REPLY_BLOCKED;
+use kernel::parts::SEND_BLOCKED;
+use kernel::parts::UNUSED;
+use kernel::table::Buffer;
+use kernel::table::Outcome;
+use kernel::table::State;
+use kernel::table::Task;
+ghost use mathlib.Core.Path.{_≡_};
+ghost use Prim.Native.Nat.{_+_, _≤_};
+ghost use lib.ListN.{length, getD};
+ghost use lib.Dec.{eqb};
+ghost use Rattle.queue.specs.Choose.{allBelow};
+ghost use Rattle.kernel.specs.Table.{noTask};
+ghost use Rattle.image.specs.Told.{toldOf};
+ghost use Rattle.image.specs.Record.{recordLength, plainParts, partsOf, fields, bufferIn, partsIn, toldIn, stateFrom, outcomeFrom};
+ghost use Rattle.image.specs.Exact.{sameParts, sameTold, exactRest, entryOf};
+
+// A record's length, and where its fields start. The spare byte is 0.
+pub(crate) const RECORD: usize = 20;
+
+const STATE: usize = 0;
+
+const PRIORITY: usize = 1;
+
+const PARENT: usize = 2;
+
+pub(crate) const PLACE: usize = 3;
+
+const AWAITED: usize = 4;
+
+const RESULT: usize = 5;
+
+const MESSAGE: usize = 6;
+
+const REPLY: usize = 10;
+
+const FROM: usize = 14;
+
+const SPARE: usize = 15;
+
+const WORD: usize = 16;
+
+// The kinds of a result.
+const NOTHING: u8 = 0;
+
+const VALUE: u8 = 1;
+
+const FAULT: u8 = 2;
+
+// The greatest word: -1.
+const MINUS_ONE: u32 = 4294967295;
+
+// The numbers of a result, in a record and in an answer: its kind, the tid that it is from, and a value or a negative fault.
+pub(crate) struct Told {
+    pub kind: u8,
+    pub from: u8,
+    pub word: u32,
+}
+
+pub(crate) fn told_of(outcome: Outcome) -> Told
+    ensures { λ r. ⌜ r ≡ toldOf outcome ⌝ }
+{
+    match outcome {
+        Outcome::Nothing => Told {
+            kind: NOTHING,
+            from: 0,
+            word: 0,
+        },
+        Outcome::Value { from, value } => Told {
+            kind: VALUE,
+            from,
+            word: value,
+        },
+        Outcome::Fault(f) => Told {
+            kind: FAULT,
+            from: 0,
+            word: std::num::wrapping_sub_u32(0, f as u32),
+        },
+    }
+}
+
+// The numbers of a state. One `match` for all four, since each would ask again which state it is.
+struct Parts {
+    code: u8,
+    awaited: u8,
+    message: Buffer,
+    reply: Buffer,
+}
+
+// The parts of a state that holds nothing.
+fn plain(code: u8) -> Parts
+    ensures { λ r. ⌜ r ≡ plainParts code ⌝ }
+{
+    Parts {
+        code,
+        awaited: 0,
+        message: Buffer { start: 0, len: 0 },
+        reply: Buffer { start: 0, len: 0 },
+    }
+}
+
+fn parts_of(state: State) -> Parts
+    ensures { λ r. ⌜ r ≡ partsOf state ⌝ }
+{
+    match state {
+        State::Unused => plain(UNUSED),
+        State::Active => plain(ACTIVE),
+        State::Ready => plain(READY),
+        State::SendBlocked(message) => Parts {
+            code: SEND_BLOCKED,
+            awaited: 0,
+            message,
+            reply: Buffer { start: 0, len: 0 },
+        },
+        State::ReceiveBlocked {
+            target,
+            message,
+            reply,
+        } => Parts {
+            code: RECEIVE_BLOCKED,
+            awaited: target,
+            message,
+            reply,
+        },
+        State::ReplyBlocked(reply) => Parts {
+            code: REPLY_BLOCKED,
+            awaited: 0,
+            message: Buffer { start: 0, len: 0 },
+            reply,
+        },
+        State::EventBlocked(event) => Parts {
+            code: EVENT_BLOCKED,
+            awaited: event,
+            message: Buffer { start: 0, len: 0 },
+            reply: Buffer { start: 0, len: 0 },
+        },
+        State::Exited => plain(EXITED),
+    }
+}
+
+fn buffer_in(r: &[u8], at: usize) -> Buffer
+    requires { ⌜ at + 4 ≤ length (now r) ⌝ }
+    ensures { λ x. ⌜ x ≡ bufferIn (now (r .entry)) at ⌝ }
+{
+    Buffer {
+        start: short_in(r, at),
+        len: short_in(r, at + 2),
+    }
+}
+
+fn parts_in(r: &[u8]) -> Parts
+    requires { ⌜ length (now r) ≡ recordLength ⌝ }
+    ensures { λ p. ⌜ p ≡ partsIn (now (r .entry)) ⌝ }
+{
+    Parts {
+        code: r[STATE],
+        awaited: r[AWAITED],
+        message: buffer_in(r, MESSAGE),
+        reply: buffer_in(r, REPLY),
+    }
+}
+
+fn told_in(r: &[u8]) -> Told
+    requires { ⌜ length (now r) ≡ recordLength ⌝ }
+    ensures { λ o. ⌜ o ≡ toldIn (now (r .entry)) ⌝ }
+{
+    Told {
+        kind: r[RESULT],
+        from: r[FROM],
+        word: word_in(r, WORD),
+    }
+}
+
+fn state_from(parts: Parts) -> State
+    ensures { λ x. ⌜ x ≡ stateFrom parts ⌝ }
+{
+    let code = parts.code;
+    let message = parts.message;
+    let reply = parts.reply;
+    match code {
+        ACTIVE => State::Active,
+        READY => State::Ready,
+        SEND_BLOCKED => State::SendBlocked(message),
+        RECEIVE_BLOCKED => State::ReceiveBlocked {
+            target: parts.awaited,
+            message,
+            reply,
+        },
+        REPLY_BLOCKED => State::ReplyBlocked(reply),
+        EVENT_BLOCKED => State::EventBlocked(parts.awaited),
+        EXITED => State::Exited,
+        _ => State::Unused,
+    }
+}
+
+fn outcome_from(told: Told) -> Outcome
+    ensures { λ x. ⌜ x ≡ outcomeFrom told ⌝ }
+{
+    let from = told.from;
+    let word = told.word;
+    if told.kind == VALUE {
+        return Outcome::Value { from, value: word };
+    }
+    if told.kind == FAULT {
+        if MINUS_ONE - 3 < word {
+            return Outcome::Fault((MINUS_ONE - word) as u8 + 1);
+        }
+    }
+    Outcome::Nothing
+}
+
+fn same_parts(p: Parts, q: Parts) -> bool
+    ensures { λ r. ⌜ r ≡ sameParts p q ⌝ }
+{
+    (p.code == q.code)
+        & (p.awaited == q.awaited)
+        & (p.message.start == q.message.start)
+        & (p.message.len == q.message.len)
+        & (p.reply.start == q.reply.start)
+        & (p.reply.len == q.reply.len)
+}
+
+fn same_told(p: Told, q: Told) -> bool
+    ensures { λ r. ⌜ r ≡ sameTold p q ⌝ }
+{
+    (p.kind == q.kind) & (p.from == q.from) & (p.word == q.word)
+}
+
+// Whether a place stands only where the task stands in a queue, and the spare byte is 0.
+fn exact_rest(r: &[u8]) -> bool
+    requires { ⌜ length (now r) ≡ recordLength ⌝ }
+    ensures { λ e. ⌜ e ≡ exactRest (now (r .entry)) ⌝ }
+{
+    let code = r[STATE];
+    ((code == READY) | (code == RECEIVE_BLOCKED) | (r[PLACE] == 0)) & (r[SPARE] == 0)
+}
+
+// Whether a record is all zero. No byte is skipped once one fails, so that the compiler may look at many at once.
+fn blank(r: &[u8]) -> bool
+    requires { ⌜ length (now r) ≡ recordLength ⌝ }
+    ensures { λ e. ⌜ e ≡ allBelow recordLength (λ i. eqb (getD (now (r .entry)) i 0) 0) ⌝ }
+{
+    let mut blank = true;
+    let mut i = 0;
+    while i < RECORD {
+        blank &= r[i] == 0;
+        i += 1;
+    }
+    blank
+}
+
+pub(crate) fn no_task() -> Task
+    ensures { λ x. ⌜ x ≡ noTask ⌝ }
+{
+    Task {
+        state: State::Unused,
+        priority: 0,
+        parent: 0,
+        outcome: Outcome::Nothing,
+    }
+}
+
+// What a record gives: a task, and whether the record is what the task is written as.
+pub(crate) struct Entry {
+    pub task: Task,
+    pub exact: bool,
+}
+
+pub(crate) fn entry_of(r: &[u8]) -> Entry
+    requires { ⌜ length (now r) ≡ recordLength ⌝ }
+    ensures { λ e. ⌜ e ≡ entryOf (now (r .entry)) ⌝ }
+{
+    if r[STATE] == UNUSED {
+        return Entry {
+            task: no_task(),
+            exact: blank(r),
+        };
+    }
+    let parts = parts_in(r);
+    let told = told_in(r);
+    let state = state_from(parts);
+    let outcome = outcome_from(told);
+    let task = Task {
+        state,
+        priority: r[PRIORITY],
+        parent: r[PARENT],
+        outcome,
+    };
+    let exact = same_parts(parts_of(state), parts)
+        & same_told(told_of(outcome), told)
+        & exact_rest(r);
+    Entry { task, exact }
+}
+
+// The fields of a task and its place, in their order.
+pub(crate) fn fields_of(x: Task, place: u8) -> [u8; RECORD]
+    ensures { λ r. ⌜ r ≡ fields x place ⌝ }
+{
+    let state = x.state;
+    let outcome = x.outcome;
+    let parts = parts_of(state);
+    let told = told_of(outcome);
+    let m = parts.message;
+    let r = parts.reply;
+    let w = told.word;
+    [
+        parts.code,
+        x.priority,
+        x.parent,
+        place,
+        parts.awaited,
+        told.kind,
+        (m.start % 256) as u8,
+        (m.start / 256 % 256) as u8,
+        (m.len % 256) as u8,
+        (m.len / 256 % 256) as u8,
+        (r.start % 256) as u8,
+        (r.start / 256 % 256) as u8,
+        (r.len % 256) as u8,
+        (r.len / 256 % 256) as u8,
+        told.from,
+        0,
+        (w % 256) as u8,
+        (w / 256 % 256) as u8,
+        (w / 256 / 256 % 256) as u8,
+        (w / 256 / 256 / 256 % 256) as u8,
+    ]
+}

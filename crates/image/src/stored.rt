@@ -1,0 +1,251 @@
+// A table as an image: a record for each slot, one after another.
+use crate::fields::PLACE;
+use crate::fields::RECORD;
+use crate::fields::entry_of;
+use crate::fields::fields_of;
+use crate::fields::no_task;
+use kernel::numbers::ACCEPTED;
+use kernel::numbers::BAD_IMAGE;
+use kernel::numbers::BAD_TABLE;
+use kernel::parts::EVENT_BLOCKED;
+use kernel::parts::READY;
+use kernel::parts::RECEIVE_BLOCKED;
+use kernel::parts::UNUSED;
+use kernel::parts::awaited;
+use kernel::parts::state_code;
+use kernel::table::EVENTS;
+use kernel::table::PRIORITIES;
+use kernel::table::SLOTS;
+use kernel::table::Table;
+use kernel::table::Task;
+use queue::Queue;
+use queue::slot;
+use queue::wide;
+ghost use mathlib.Core.Path.{_≡_};
+ghost use Prim.Native.Nat.{_+_, _*_, _≤_, _<_, min, max};
+ghost use lib.ListN.{length, set};
+ghost use lib.Seq.{paste};
+ghost use Rattle.queue.specs.Row.{places};
+ghost use Rattle.queue.specs.Placed.{placedRow};
+ghost use Rattle.rules.specs.Fresh.{unusedTable};
+ghost use Rattle.rules.specs.Good.{readyKey, sendersKey};
+ghost use Rattle.image.specs.Record.{recordLength};
+ghost use Rattle.image.specs.Image.{waitersKey, reading, readImage, stored, writeVerdict, written};
+ghost use Rattle.image.specs.Exact.{decodedOf};
+
+// How long an image is.
+pub const IMAGE: usize = SLOTS * RECORD;
+
+// What reading an image gives: a table, its active slot (SLOTS where none is) and a verdict of 0, which is no refusal.
+// Refused, the table has every slot unused.
+pub struct Reading {
+    pub table: Table,
+    pub active: usize,
+    pub verdict: u8,
+}
+
+// The row or the event that a task belongs to, past the last where there is none.
+fn ready_key(x: Task) -> usize
+    ensures { λ r. ⌜ r ≡ readyKey x ⌝ }
+{
+    let state = x.state;
+    if state_code(state) == READY {
+        x.priority as usize
+    } else {
+        PRIORITIES
+    }
+}
+
+fn senders_key(x: Task) -> usize
+    ensures { λ r. ⌜ r ≡ sendersKey places x ⌝ }
+{
+    let state = x.state;
+    if state_code(state) == RECEIVE_BLOCKED {
+        slot(awaited(state))
+    } else {
+        SLOTS
+    }
+}
+
+fn waiters_key(x: Task) -> usize
+    ensures { λ r. ⌜ r ≡ waitersKey x ⌝ }
+{
+    let state = x.state;
+    if state_code(state) == EVENT_BLOCKED {
+        wide(awaited(state))
+    } else {
+        EVENTS
+    }
+}
+
+// A byte stored; past the end nothing is.
+fn put(xs: &mut [u8], at: usize, byte: u8)
+    ensures { λ r. ⌜ now (xs .exit) ≡ set (now (xs .entry)) at byte ⌝ }
+{
+    if at < xs.len() {
+        xs[at] = byte;
+    }
+}
+
+// The number of places that a row reaches with one more put at a place.
+fn reach(len: u8, place: u8) -> u8
+    ensures { λ r. ⌜ r ≡ max len (min (place + 1) places) ⌝ }
+{
+    let p = place as usize;
+    if p < SLOTS {
+        if len <= place { place + 1 } else { len }
+    } else {
+        if wide(len) < SLOTS { SLOTS as u8 } else { len }
+    }
+}
+
+// A tid put at a place, which the row then reaches.
+fn placed_row(q: Queue, place: u8, tid: u8) -> Queue
+    ensures { λ r. ⌜ r ≡ placedRow q place tid ⌝ }
+{
+    let mut tids = q.tids;
+    put(&mut tids, place as usize, tid);
+    Queue {
+        tids,
+        len: reach(q.len, place),
+    }
+}
+
+// The table that an image gives, and whether every record is what its task is written as.
+struct Decoded {
+    table: Table,
+    exact: bool,
+}
+
+// One pass over the records, with the table's parts apart, so that none of them is copied on the way.
+fn decode(bytes: &[u8]) -> Decoded
+    requires { ⌜ length (now bytes) ≡ places * recordLength ⌝ }
+    ensures { λ r. ⌜ r ≡ decodedOf places (now (bytes .entry)) ⌝ }
+{
+    let mut tasks = [no_task(); SLOTS];
+    let mut ready = [Queue::empty(); PRIORITIES];
+    let mut senders = [Queue::empty(); SLOTS];
+    let mut waiters = [0u8; EVENTS];
+    let mut exact = true;
+    let mut s = 0;
+    while s < SLOTS {
+        let at = s * RECORD;
+        let end = at + RECORD;
+        let r = &bytes[at..end];
+        let entry = entry_of(r);
+        let x = entry.task;
+        let tid = (s + 1) as u8;
+        let place = r[PLACE];
+        exact &= entry.exact;
+        tasks[s] = x;
+        let k = ready_key(x);
+        if k < PRIORITIES {
+            ready[k] = placed_row(ready[k], place, tid);
+        }
+        let g = senders_key(x);
+        if g < SLOTS {
+            senders[g] = placed_row(senders[g], place, tid);
+        }
+        put(&mut waiters, waiters_key(x), tid);
+        s += 1;
+    }
+    let table = Table {
+        tasks,
+        ready,
+        senders,
+        waiters,
+    };
+    Decoded { table, exact }
+}
+
+// A record copied into an image.
+fn put_record(out: &mut [u8], at: usize, r: [u8; RECORD])
+    requires { ⌜ at + recordLength ≤ length (now out) ⌝ }
+    ensures { λ x. ⌜ now (out .exit) ≡ paste (now (out .entry)) at r recordLength ⌝ }
+{
+    let mut i = 0;
+    while i < RECORD {
+        out[at + i] = r[i];
+        i += 1;
+    }
+}
+
+// The records of a table, good or not; where the bytes are of another length, nothing.
+pub fn store(table: Table, out: &mut [u8])
+    ensures { λ r. ⌜ now (out .exit) ≡ stored table (now (out .entry)) ⌝ }
+{
+    if out.len() == IMAGE {
+        let mut s = 0;
+        while s < SLOTS {
+            let x = table.tasks[s];
+            let state = x.state;
+            let at = s * RECORD;
+            if state_code(state) == UNUSED {
+                put_record(&mut *out, at, [0; RECORD]);
+                s += 1;
+                continue;
+            }
+            let tid = (s + 1) as u8;
+            let mut place = 0;
+            let k = ready_key(x);
+            if k < PRIORITIES {
+                let q = table.ready[k];
+                place = q.place_of(tid);
+            }
+            let g = senders_key(x);
+            if g < SLOTS {
+                let q = table.senders[g];
+                place = q.place_of(tid);
+            }
+            put_record(&mut *out, at, fields_of(x, place as u8));
+            s += 1;
+        }
+    }
+}
+
+// The records of a good table. Refused by 7 where the bytes are of another length, then by 2 where a rule is broken:
+// no byte is written then.
+pub fn write(table: Table, out: &mut [u8]) -> u8
+    ensures verdict { λ r. ⌜ r ≡ writeVerdict table (length (now (out .entry))) ⌝ }
+    ensures bytes { λ r. ⌜ now (out .exit) ≡ written table (now (out .entry)) ⌝ }
+{
+    if out.len() != IMAGE {
+        return BAD_IMAGE;
+    }
+    let checked = rules::check(table);
+    if !checked.good {
+        return BAD_TABLE;
+    }
+    store(table, &mut *out);
+    ACCEPTED
+}
+
+fn refused(verdict: u8) -> Reading
+    ensures { λ r. ⌜ r ≡ reading (unusedTable places) verdict ⌝ }
+{
+    Reading {
+        table: rules::unused_table(),
+        active: SLOTS,
+        verdict,
+    }
+}
+
+// The table of an image. Refused by 7 where its length is another, then by 2 where it is not the image of a good table.
+pub fn read(bytes: &[u8]) -> Reading
+    ensures { λ r. ⌜ r ≡ readImage places (now (bytes .entry)) ⌝ }
+{
+    if bytes.len() != IMAGE {
+        return refused(BAD_IMAGE);
+    }
+    let decoded = decode(bytes);
+    let table = decoded.table;
+    let checked = rules::check(table);
+    if checked.good & decoded.exact {
+        return Reading {
+            table,
+            active: checked.active,
+            verdict: ACCEPTED,
+        };
+    }
+    refused(BAD_TABLE)
+}

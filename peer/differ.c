@@ -1,0 +1,128 @@
+/* Says in words where two outputs part, once cmp has found that they do. */
+#include <stdint.h>
+#include <stdio.h>
+#include <string.h>
+
+#include "kernel.h"
+
+enum { LINE = 128, CHUNK = 16384 };
+
+static const char *const chunk_name[] = {"image", "areas", "record",
+                                         "answer"};
+
+/* What a case gave: a verdict and four chunks. */
+struct outcome {
+    bool whole;
+    uint32_t verdict, length[4];
+    uint8_t bytes[4][CHUNK];
+};
+
+/* Bytes that do not print are shown as ?, with their value behind. */
+static bool get_line(FILE *f, char *line)
+{
+    int c = 0, at = 0;
+    while (at < LINE - 8 && (c = getc(f)) != EOF && c != '\n')
+        at += c >= ' ' && c <= '~' ? sprintf(line + at, "%c", c)
+                                   : sprintf(line + at, "?%d", c);
+    line[at] = '\0';
+    if (at == 0 && c == EOF)
+        strcpy(line, "(no line)");
+    return at > 0 || c != EOF;
+}
+
+static int lines(FILE *a, FILE *b)
+{
+    char peer[LINE], other[LINE];
+    for (unsigned long number = 1;; number++) {
+        bool more = get_line(a, peer);
+        more = get_line(b, other) || more;
+        if (strcmp(peer, other) != 0) {
+            printf("line %lu: peer '%s', other '%s'\n", number, peer, other);
+            return 1;
+        }
+        if (!more)
+            return 0;
+    }
+}
+
+static bool get_word(FILE *f, uint32_t *n)
+{
+    uint8_t b[4];
+    if (fread(b, 1, sizeof b, f) != sizeof b)
+        return false;
+    *n = b[0] | (uint32_t)b[1] << 8 | (uint32_t)b[2] << 16 |
+         (uint32_t)b[3] << 24;
+    return true;
+}
+
+static void get_outcome(FILE *f, struct outcome *o)
+{
+    memset(o, 0, sizeof *o);
+    if (!get_word(f, &o->verdict))
+        return;
+    for (int i = 0; i < 4; i++)
+        if (!get_word(f, &o->length[i]) || o->length[i] > CHUNK ||
+            fread(o->bytes[i], 1, o->length[i], f) != o->length[i])
+            return;
+    o->whole = true;
+}
+
+static void describe(const struct outcome *a, const struct outcome *b)
+{
+    if (a->length[2] == RECORD_BYTES) {
+        struct request q = request_read(a->bytes[2]);
+        printf("request %ld(%ld,%ld,%ld,%ld,%ld): ", (long)q.kind,
+               (long)q.arg[0], (long)q.arg[1], (long)q.arg[2],
+               (long)q.arg[3], (long)q.arg[4]);
+    }
+    if (a->verdict != b->verdict)
+        printf("verdict: peer %lu, other %lu; ", (unsigned long)a->verdict,
+               (unsigned long)b->verdict);
+    for (int i = 0; i < 4; i++) {
+        if (a->length[i] != b->length[i]) {
+            printf("length of %s: peer %lu, other %lu\n", chunk_name[i],
+                   (unsigned long)a->length[i], (unsigned long)b->length[i]);
+            return;
+        }
+        for (uint32_t j = 0; j < a->length[i]; j++) {
+            if (a->bytes[i][j] != b->bytes[i][j]) {
+                printf("%s byte %lu: peer %d, other %d\n", chunk_name[i],
+                       (unsigned long)j, a->bytes[i][j], b->bytes[i][j]);
+                return;
+            }
+        }
+    }
+    printf("no other difference\n");
+}
+
+static int cases(FILE *a, FILE *b)
+{
+    static struct outcome peer, other;
+    for (unsigned long number = 1;; number++) {
+        get_outcome(a, &peer);
+        get_outcome(b, &other);
+        if (memcmp(&peer, &other, sizeof peer) != 0) {
+            printf("case %lu: ", number);
+            if (peer.whole && other.whole)
+                describe(&peer, &other);
+            else
+                printf("%s\n", peer.whole ? "the other gave nothing whole"
+                                          : "the peer gave nothing whole");
+            return 1;
+        }
+        if (!peer.whole)
+            return 0;
+    }
+}
+
+int main(int argc, char **argv)
+{
+    FILE *a = argc == 4 ? fopen(argv[2], "rb") : NULL;
+    FILE *b = argc == 4 ? fopen(argv[3], "rb") : NULL;
+    if (a && b && strcmp(argv[1], "lines") == 0)
+        return lines(a, b);
+    if (a && b && strcmp(argv[1], "cases") == 0)
+        return cases(a, b);
+    fputs("usage: differ lines|cases PEER OTHER\n", stderr);
+    return 2;
+}

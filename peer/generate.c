@@ -1,0 +1,177 @@
+/* Writes request streams and byte-entry cases to standard output. */
+#include "generate.h"
+
+#include <stdio.h>
+#include <stdlib.h>
+#include <string.h>
+
+static struct world world;
+
+/* A seed and an index give streams that have nothing to do with each other. */
+static uint64_t mix(uint64_t seed, uint64_t index)
+{
+    uint64_t s = seed;
+    s = draw(&s) ^ index;
+    return draw(&s);
+}
+
+static void put_request(const struct request *q)
+{
+    uint8_t record[RECORD_BYTES];
+    request_write(q, record);
+    fwrite(record, 1, sizeof record, stdout);
+}
+
+static int requests(uint64_t seed, unsigned long steps)
+{
+    world_start(&world, seed, FIRST_PRIORITY);
+    for (unsigned long i = 0; i < steps; i++) {
+        struct request q = world_live(&world);
+        table_step(&world.table, world.areas, &q);
+        put_request(&q);
+    }
+    return 0;
+}
+
+/* ---- cases ---- */
+
+enum { IMAGE_CHUNK, AREAS_CHUNK, RECORD_CHUNK, ANSWER_CHUNK, CHUNKS };
+
+struct chunk {
+    uint32_t length;
+    uint8_t bytes[16384];
+};
+
+static const uint32_t right[CHUNKS] = {IMAGE_BYTES, AREAS_BYTES,
+                                       RECORD_BYTES, ANSWER_BYTES};
+
+static void put_chunk(const struct chunk *c)
+{
+    uint8_t b[4] = {(uint8_t)c->length, (uint8_t)(c->length >> 8),
+                    (uint8_t)(c->length >> 16), (uint8_t)(c->length >> 24)};
+    fwrite(b, 1, sizeof b, stdout);
+    fwrite(c->bytes, 1, c->length, stdout);
+}
+
+static void garbage(uint64_t *s, uint8_t *to, uint32_t length)
+{
+    for (uint32_t i = 0; i < length; i += 8) {
+        uint64_t r = draw(s);
+        for (uint32_t j = i; j < i + 8 && j < length; j++, r >>= 8)
+            to[j] = (uint8_t)r;
+    }
+}
+
+/* An image from the middle of a run, or one no run need lead to. */
+static void base_image(struct world *run, uint64_t *s, uint8_t *image)
+{
+    uint32_t priority = below(s, PRIORITIES);
+    if (chance(s, 50)) {
+        image_invent(s, image);
+        return;
+    }
+    if (world_dead(&run->table) || chance(s, 1))
+        world_start(run, draw(s), priority);
+    for (uint32_t i = 1 + below(s, 6); i > 0; i--) {
+        struct request q = world_live(run);
+        table_step(&run->table, run->areas, &q);
+    }
+    table_write(&run->table, image);
+}
+
+static void wrong_lengths(uint64_t *s, struct chunk *c)
+{
+    uint32_t which = 1 + below(s, 15);
+    if (chance(s, 60))           /* mostly one alone */
+        which = 1u << below(s, 4);
+    for (int i = 0; i < CHUNKS; i++) {
+        if (!(which >> i & 1))
+            continue;
+        switch (below(s, 5)) {
+        case 0:
+            c[i].length = 0;
+            break;
+        case 1:
+            c[i].length = right[i] - 1;
+            break;
+        case 2:
+            c[i].length = right[i] + 1;
+            break;
+        case 3:
+            c[i].length = 2 * right[i];
+            break;
+        default:
+            c[i].length = right[below(s, CHUNKS)];
+            break;
+        }
+    }
+}
+
+static void one_case(struct world *run, uint64_t *s)
+{
+    static struct chunk c[CHUNKS];
+    uint32_t roll = below(s, 100);
+    for (int i = 0; i < CHUNKS; i++) {
+        c[i].length = right[i];
+        garbage(s, c[i].bytes, right[i] + 64);
+    }
+    base_image(run, s, c[IMAGE_CHUNK].bytes);
+    if (!table_read(&world.table, c[IMAGE_CHUNK].bytes)) {
+        fputs("generate: a good image was refused\n", stderr);
+        exit(1);
+    }
+    world.seed = draw(s);
+    world_habits(&world);
+    struct request q = world_choose(&world);
+    request_write(&q, c[RECORD_CHUNK].bytes);
+    if (roll >= 50)
+        image_damage(s, c[IMAGE_CHUNK].bytes);
+    if (roll >= 88 && roll < 93)
+        for (uint32_t i = 1 + below(s, 3); i > 0; i--)
+            image_damage(s, c[IMAGE_CHUNK].bytes);
+    if (roll < 6 || roll >= 96)
+        wrong_lengths(s, c);
+    for (int i = 0; i < CHUNKS; i++)
+        put_chunk(&c[i]);
+}
+
+static int cases(uint64_t seed, unsigned long count)
+{
+    static struct world run;
+    uint64_t s = seed;
+    world_start(&run, draw(&s), FIRST_PRIORITY);
+    for (unsigned long i = 0; i < count; i++)
+        one_case(&run, &s);
+    return 0;
+}
+
+/* The stream whose eleven lines are printed in the scope document. */
+static int first_run(void)
+{
+    static const struct request steps[] = {
+        {1, {8}}, {7, {0, 4}}, {11, {10, 65}}, {6, {2, 10, 6, 20, 1}},
+        {8, {1, 0, 3}}, {8, {1, 0, 3}}, {5, {0}}, {6, {2}}, {9, {3}},
+        {2, {0}}, {10, {3, 7}}};
+    for (unsigned i = 0; i < sizeof steps / sizeof steps[0]; i++)
+        put_request(&steps[i]);
+    return 0;
+}
+
+int main(int argc, char **argv)
+{
+    if (argc == 2 && strcmp(argv[1], "first-run") == 0)
+        return first_run();
+    if (argc == 4 || argc == 5) {
+        uint64_t seed = strtoull(argv[2], NULL, 10);
+        unsigned long count = strtoul(argv[3], NULL, 10);
+        seed = mix(seed, argc == 5 ? strtoull(argv[4], NULL, 10) : 0);
+        if (strcmp(argv[1], "requests") == 0)
+            return requests(seed, count);
+        if (strcmp(argv[1], "cases") == 0)
+            return cases(seed, count);
+    }
+    fputs("usage: generate requests SEED STEPS [INDEX]\n"
+          "       generate cases SEED COUNT [INDEX]\n"
+          "       generate first-run\n", stderr);
+    return 2;
+}

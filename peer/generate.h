@@ -1,0 +1,50 @@
+/* Seeded requests and byte-entry cases. */
+#ifndef PEER_GENERATE_H
+#define PEER_GENERATE_H
+
+#include "kernel.h"
+
+/* splitmix64: small, and the same everywhere; so no expression may hold two
+ * draws whose order C leaves open. */
+static inline uint64_t draw(uint64_t *seed)
+{
+    uint64_t z = (*seed += UINT64_C(0x9E3779B97F4A7C15));
+    z = (z ^ z >> 30) * UINT64_C(0xBF58476D1CE4E5B9);
+    z = (z ^ z >> 27) * UINT64_C(0x94D049BB133111EB);
+    return z ^ z >> 31;
+}
+
+static inline uint32_t below(uint64_t *seed, uint32_t n)
+{
+    return (uint32_t)((draw(seed) >> 32) * n >> 32);
+}
+
+static inline bool chance(uint64_t *seed, uint32_t percent)
+{
+    return below(seed, 100) < percent;
+}
+
+/* A kernel that is followed, and the habits of its tasks. */
+struct world {
+    struct table table;
+    uint8_t areas[AREAS_BYTES];
+    uint64_t seed;
+    uint32_t priorities;     /* how new tasks get theirs, 0..2 */
+    uint32_t exits;          /* weight of Exit */
+    uint32_t creates;        /* weight of Create while slots are free */
+    uint32_t sends;          /* weight of Send, half of it Receive */
+    uint32_t hot;            /* tid that gets most messages */
+    bool mortal;             /* may run into a standstill */
+};
+
+void world_start(struct world *w, uint64_t seed, uint32_t priority);
+void world_habits(struct world *w);
+bool world_dead(const struct table *k);
+struct request world_choose(struct world *w);  /* any request */
+struct request world_live(struct world *w);    /* one that keeps it going */
+
+/* Images for cases: a good one made up whole, and one thing spoiled. */
+void image_invent(uint64_t *seed, uint8_t *image);
+void image_damage(uint64_t *seed, uint8_t *image);
+
+#endif

@@ -1,0 +1,354 @@
+/* Images for cases: good ones no run may lead to, and damaged ones. */
+#include <stddef.h>
+#include <string.h>
+
+#include "generate.h"
+
+static uint8_t *slot(uint8_t *image, uint32_t i)
+{
+    return image + i * SLOT_BYTES;
+}
+
+static void put2(uint8_t *b, uint32_t n)
+{
+    b[0] = (uint8_t)n;
+    b[1] = (uint8_t)(n >> 8);
+}
+
+static void put4(uint8_t *b, int32_t n)
+{
+    put2(b, (uint32_t)n);
+    put2(b + 2, (uint32_t)n >> 16);
+}
+
+static uint32_t used(const uint8_t *image)
+{
+    uint32_t n = 0;
+    while (n < TASKS && image[n * SLOT_BYTES] != UNUSED)
+        n++;
+    return n;
+}
+
+static uint8_t nonzero(uint64_t *s)
+{
+    return (uint8_t)(chance(s, 50) ? 1 : 1 + below(s, 255));
+}
+
+/* ---- a good table, made up whole ---- */
+
+static void put_room(uint64_t *s, uint8_t *b)
+{
+    uint32_t length = chance(s, 20) ? 0 : below(s, chance(s, 50) ? 9 : 257);
+    put2(b, chance(s, 10) ? AREA - length : below(s, AREA - length + 1));
+    put2(b + 2, length);
+}
+
+static void put_result(uint64_t *s, uint8_t *b, uint32_t n)
+{
+    b[5] = (uint8_t)below(s, 3);
+    b[14] = b[5] == VALUE && chance(s, 60) ? (uint8_t)below(s, n + 1) : 0;
+    if (b[5] == VALUE)
+        put4(b + 16, chance(s, 20) ? INT32_MAX : (int32_t)below(s, 300));
+    if (b[5] == FAULT)
+        put4(b + 16, -1 - (int32_t)below(s, 3));
+}
+
+/* A target other than itself that does not wait for a sender, else 0. */
+static uint8_t free_target(uint64_t *s, uint8_t *image, uint32_t n, uint32_t i)
+{
+    uint32_t start = chance(s, 50) ? 0 : below(s, n);
+    for (uint32_t j = 0; j < n; j++) {
+        uint32_t t = (start + j) % n;
+        if (t != i && slot(image, t)[0] != SEND_BLOCKED)
+            return (uint8_t)(t + 1);
+    }
+    return 0;
+}
+
+static void put_fields(uint64_t *s, uint8_t *image, uint32_t n, uint32_t i,
+                       uint8_t *events)
+{
+    uint8_t *b = slot(image, i);
+    if (b[0] == RECEIVE_BLOCKED && !(b[4] = free_target(s, image, n, i)))
+        b[0] = EXITED;
+    if (b[0] == SEND_BLOCKED || b[0] == RECEIVE_BLOCKED)
+        put_room(s, b + 6);
+    if (b[0] == RECEIVE_BLOCKED || b[0] == REPLY_BLOCKED)
+        put_room(s, b + 10);
+    if (b[0] == READY)
+        put_result(s, b, n);
+    if (b[0] == EVENT_BLOCKED) {
+        do
+            b[4] = (uint8_t)below(s, EVENTS);
+        while (events[b[4]]);
+        events[b[4]] = 1;
+    }
+}
+
+/* Places are dealt in any order of the slots. */
+static void put_places(uint64_t *s, uint8_t *image, uint32_t n)
+{
+    uint8_t order[TASKS], ready[PRIORITIES] = {0}, sending[TASKS + 1] = {0};
+    for (uint32_t i = 0; i < n; i++) {
+        uint32_t j = below(s, i + 1);
+        order[i] = order[j];
+        order[j] = (uint8_t)i;
+    }
+    for (uint32_t i = 0; i < n; i++) {
+        uint8_t *b = slot(image, order[i]);
+        if (b[0] == READY)
+            b[3] = ready[b[1]]++;
+        if (b[0] == RECEIVE_BLOCKED)
+            b[3] = sending[b[4]]++;
+    }
+}
+
+void image_invent(uint64_t *s, uint8_t *image)
+{
+    uint8_t events[EVENTS] = {0};
+    uint32_t n = chance(s, 15) ? TASKS : 1 + below(s, TASKS);
+    bool busy = chance(s, 80);
+    uint32_t active = busy ? below(s, n) : TASKS;
+    uint32_t spread = chance(s, 50) ? 3 : PRIORITIES;
+    memset(image, 0, IMAGE_BYTES);
+    for (uint32_t i = 0; i < n; i++) {
+        uint8_t *b = slot(image, i);
+        b[0] = (uint8_t)(READY + below(s, 6));
+        if (i == active)
+            b[0] = ACTIVE;
+        else if (b[0] == READY && !busy)
+            b[0] = EXITED;
+        b[1] = (uint8_t)(below(s, spread) * (PRIORITIES / spread));
+        b[2] = (uint8_t)(i == 0 ? 0 : 1 + below(s, i));
+    }
+    for (uint32_t i = 0; i < n; i++)
+        put_fields(s, image, n, i, events);
+    put_places(s, image, n);
+}
+
+/* ---- damage ---- */
+
+enum {
+    ANY = 0xFE,
+    IS_ACTIVE = 1 << ACTIVE, IS_READY = 1 << READY,
+    IS_WAITING = 1 << SEND_BLOCKED, IS_SENDING = 1 << RECEIVE_BLOCKED,
+    IS_REPLY = 1 << REPLY_BLOCKED, IS_EVENT = 1 << EVENT_BLOCKED,
+    IS_EXITED = 1 << EXITED
+};
+
+/* A slot in one of the states; each state gets the same chance first. */
+static uint8_t *find(uint64_t *s, uint8_t *image, unsigned states)
+{
+    unsigned state = 1 + below(s, 7);
+    uint32_t start = below(s, TASKS);
+    uint8_t *any = NULL;
+    for (uint32_t i = 0; i < TASKS; i++) {
+        uint8_t *b = slot(image, (start + i) % TASKS);
+        if (b[0] < STATES && states >> b[0] & 1) {
+            if (b[0] == state)
+                return b;
+            any = b;
+        }
+    }
+    return any;
+}
+
+/* Keeps priority and parent, drops the rest. */
+static void remake(uint8_t *b, enum state state)
+{
+    memset(b + 3, 0, SLOT_BYTES - 3);
+    b[0] = (uint8_t)state;
+}
+
+static void set_result(uint8_t *b, uint8_t kind, int32_t number, uint32_t from)
+{
+    b[5] = kind;
+    b[14] = (uint8_t)from;
+    put4(b + 16, number);
+}
+
+static void bad_room(uint64_t *s, uint8_t *b)
+{
+    static const uint16_t bad[][2] = {
+        {257, 0}, {256, 1}, {255, 2}, {0, 257}, {1, 256}, {128, 129},
+        {65535, 1}, {1, 65535}, {65535, 65535}, {32768, 32768}, {512, 0}};
+    uint32_t i = below(s, sizeof bad / sizeof bad[0]);
+    put2(b, bad[i][0]);
+    put2(b + 2, bad[i][1]);
+}
+
+/* Fields of one record: what a state does not use, and plain ranges. */
+static void damage_field(uint64_t *s, uint8_t *image)
+{
+    static const struct { uint8_t states, at; } unused[] = {
+        {0xEA, 3}, {0xAE, 4}, {0xE6, 6}, {0xE6, 8}, {0xCE, 10}, {0xCE, 12},
+        {0xFE, 15}};
+    uint32_t i = below(s, 9), half = below(s, 2);
+    uint8_t *b = find(s, image, i < 7 ? unused[i].states : ANY);
+    if (!b)
+        return;
+    if (i < 7)
+        b[unused[i].at + (i >= 2 && i < 6 ? half : 0)] = nonzero(s);
+    else if (i == 7)
+        b[0] = (uint8_t)(chance(s, 30) ? 8 : 8 + below(s, 248));
+    else
+        b[1] = (uint8_t)(chance(s, 30) ? 32 : 32 + below(s, 224));
+}
+
+static void damage_result(uint64_t *s, uint8_t *image)
+{
+    static const int32_t bad_fault[] = {0, -4, 1, 3, INT32_MIN, INT32_MAX,
+                                        255, 253, -257, -65537};
+    uint32_t i = below(s, 8), n = used(image), from = below(s, n);
+    uint8_t *b = find(s, image, i == 1 ? 0xFA : i < 4 ? ANY : IS_READY);
+    if (!b)
+        return;
+    if (i == 0)
+        b[5] = (uint8_t)(chance(s, 50) ? 3 : 3 + below(s, 253));
+    else if (i == 1)
+        set_result(b, (uint8_t)(1 + below(s, 2)), 0, 0);
+    else if (i == 2)
+        set_result(b, NOTHING, 0, nonzero(s));
+    else if (i == 3)
+        set_result(b, NOTHING, 1 << below(s, 31), 0);
+    else if (i == 4)
+        set_result(b, VALUE, INT32_MIN + (int32_t)(draw(s) & INT32_MAX),
+                   from);
+    else if (i == 5)
+        set_result(b, VALUE, 7, n + 1 + (chance(s, 50) ? 0 : below(s, 223)));
+    else if (i == 6)
+        set_result(b, FAULT, bad_fault[below(s, 10)], 0);
+    else
+        set_result(b, FAULT, -1 - (int32_t)below(s, 3), 1 + from);
+    if (i == 1 && b[5] == FAULT)
+        put4(b + 16, -1 - (int32_t)below(s, 3));
+}
+
+static void damage_parent(uint64_t *s, uint8_t *image)
+{
+    uint32_t n = used(image), i = below(s, 3);
+    uint32_t t = n > 1 ? 1 + below(s, n - 1) : 0;
+    if (i == 0 || n < 2)
+        image[2] = nonzero(s);
+    else
+        slot(image, t)[2] =
+            (uint8_t)(i == 1 ? 0 : t + 1 + (chance(s, 60) ? 0 : below(s, 223)));
+}
+
+/* Rooms, targets and events in use, but wrong. */
+static void damage_name(uint64_t *s, uint8_t *image)
+{
+    uint32_t i = below(s, 7), n = used(image);
+    uint8_t *b = find(s, image, i == 0 ? IS_WAITING | IS_SENDING
+                                : i == 1 ? IS_SENDING | IS_REPLY
+                                : i < 5 ? IS_SENDING : IS_EVENT);
+    uint8_t *other = find(s, image, IS_EVENT);
+    if (!b)
+        return;
+    if (i < 2)
+        bad_room(s, b + (i == 0 ? 6 : 10));
+    else if (i == 2)
+        b[4] = 0;
+    else if (i == 3)
+        b[4] = (uint8_t)(n + 1 + (chance(s, 50) ? 0 : below(s, 223)));
+    else if (i == 4)
+        b[4] = (uint8_t)((b - image) / SLOT_BYTES + 1);
+    else if (i == 5)
+        b[4] = (uint8_t)(chance(s, 50) ? 64 : 64 + below(s, 192));
+    else
+        b[4] = other[4];
+}
+
+static void damage_place(uint64_t *s, uint8_t *image)
+{
+    uint8_t *a = find(s, image, IS_READY | IS_SENDING);
+    uint8_t *b = find(s, image, IS_READY | IS_SENDING), kept;
+    if (!a)
+        return;
+    switch (below(s, 6)) {
+    case 0:
+        a[3] = (uint8_t)(chance(s, 50) ? 32 : 32 + below(s, 224));
+        break;
+    case 1:
+        a[3] = (uint8_t)(a[3] > 0 ? below(s, a[3]) : 1);
+        break;
+    case 2:
+        a[3]++;
+        break;
+    case 3:                      /* the two at once may even be good */
+        kept = a[3];
+        a[3] = b[3];
+        b[3] = kept;
+        break;
+    case 4:
+        a[3] = b[3];
+        break;
+    default:                     /* leaves its queue, joins another */
+        a[a[0] == READY ? 1 : 4] = (uint8_t)(1 + below(s, 31));
+        break;
+    }
+}
+
+/* What only the whole table shows. */
+static void damage_whole(uint64_t *s, uint8_t *image)
+{
+    uint32_t n = used(image), i = below(s, 6), at = 1 + below(s, 19);
+    uint8_t *b = find(s, image, i == 1 ? IS_ACTIVE : i == 2 ? IS_SENDING
+                      : IS_WAITING | IS_REPLY | IS_EVENT | IS_EXITED);
+    if (i == 0 && b) {
+        remake(b, ACTIVE);
+    } else if (i == 1 && b) {
+        remake(b, EXITED);
+    } else if (i == 2 && b && b[4] >= 1 && b[4] <= TASKS) {
+        b = slot(image, b[4] - 1u);
+        if (b[0] >= REPLY_BLOCKED)
+            remake(b, SEND_BLOCKED);
+    } else if (i == 3 && n < TASKS) {
+        b = slot(image, n + below(s, TASKS - n));
+        b[at] = nonzero(s);
+    } else if (i == 4 && n > 1) {
+        memset(slot(image, below(s, n - 1)), 0, SLOT_BYTES);
+    } else if (i == 5 && n > 0 && n < TASKS - 1) {
+        b = find(s, image, ANY);
+        if (b)
+            memcpy(slot(image, n + 1 + below(s, TASKS - n - 1)), b,
+                   SLOT_BYTES);
+    }
+}
+
+static void damage_rough(uint64_t *s, uint8_t *image)
+{
+    uint32_t i = below(s, TASKS), j = below(s, TASKS), style = below(s, 20);
+    uint32_t at = below(s, SLOT_BYTES), range = chance(s, 50) ? 8 : 256;
+    uint8_t kept[SLOT_BYTES];
+    if (style < 8) {
+        for (uint32_t flips = 1 + below(s, 3); flips > 0; flips--) {
+            uint8_t bit = (uint8_t)(1 << below(s, 8));
+            image[below(s, IMAGE_BYTES)] ^= bit;
+        }
+    } else if (style < 12) {
+        slot(image, i % (used(image) + 1) % TASKS)[at] = (uint8_t)draw(s);
+    } else if (style < 14) {
+        memcpy(kept, slot(image, i), SLOT_BYTES);
+        memcpy(slot(image, i), slot(image, j), SLOT_BYTES);
+        memcpy(slot(image, j), kept, SLOT_BYTES);
+    } else if (style < 17) {
+        slot(image, i)[0] = (uint8_t)below(s, STATES);
+    } else if (style < 18) {
+        memset(image, 0, IMAGE_BYTES);
+    } else if (style < 19) {
+        memset(image, (int)below(s, 256), IMAGE_BYTES);
+    } else {
+        for (uint32_t k = 0; k < IMAGE_BYTES; k++)
+            image[k] = (uint8_t)below(s, range);
+    }
+}
+
+void image_damage(uint64_t *s, uint8_t *image)
+{
+    static void (*const damage[])(uint64_t *, uint8_t *) = {
+        damage_field, damage_field, damage_field, damage_result,
+        damage_result, damage_parent, damage_name, damage_place,
+        damage_whole, damage_rough};
+    damage[below(s, sizeof damage / sizeof damage[0])](s, image);
+}

@@ -1,0 +1,315 @@
+/* Chooses requests by looking at the kernel they will meet. */
+#include <stddef.h>
+#include <string.h>
+
+#include "generate.h"
+
+static int32_t pick(uint64_t *seed, const int32_t *from, uint32_t count)
+{
+    return from[below(seed, count)];
+}
+
+#define PICK(seed, ...) \
+    pick(seed, (const int32_t[]){__VA_ARGS__}, \
+         sizeof(int32_t[]){__VA_ARGS__} / sizeof(int32_t))
+
+static int32_t odd_number(uint64_t *seed)
+{
+    if (chance(seed, 30))
+        return (int32_t)((int64_t)(draw(seed) >> 32) + INT32_MIN);
+    return PICK(seed, -1, -2, -5, 0, 1, 2, 11, 12, 31, 32, 33, 63, 64, 255,
+                256, 257, 511, 65535, 65536, INT32_MAX, INT32_MIN,
+                INT32_MAX - 1, 16777217, -256);
+}
+
+/* ---- the world ---- */
+
+void world_habits(struct world *w)
+{
+    uint64_t *s = &w->seed;
+    w->priorities = below(s, 3);
+    w->exits = (uint32_t)PICK(s, 0, 0, 1, 1, 4);
+    w->creates = (uint32_t)PICK(s, 4, 12, 30);
+    w->sends = (uint32_t)PICK(s, 5, 12, 25);
+    w->hot = 1 + below(s, 4);
+    w->mortal = chance(s, 10);
+}
+
+void world_start(struct world *w, uint64_t seed, uint32_t priority)
+{
+    memset(w, 0, sizeof *w);
+    w->seed = seed;
+    table_start(&w->table, priority);
+    world_habits(w);
+}
+
+static struct task *some_task(struct world *w, enum state state)
+{
+    uint32_t start = below(&w->seed, w->table.used);
+    for (uint32_t i = 0; i < w->table.used; i++) {
+        struct task *t = &w->table.tasks[(start + i) % w->table.used];
+        if (t->state == state)
+            return t;
+    }
+    return NULL;
+}
+
+/* Tasks that can never go on: queued at one that exited, or in a ring. */
+static uint32_t stuck(const struct table *k)
+{
+    uint32_t count = 0;
+    for (uint32_t i = 0; i < k->used; i++) {
+        const struct task *t = &k->tasks[i];
+        for (int hops = 0; hops < TASKS && t->state == RECEIVE_BLOCKED; hops++)
+            t = t->target;
+        count += t != &k->tasks[i] && (t->state == RECEIVE_BLOCKED ||
+                                       t->state == EXITED);
+    }
+    return count;
+}
+
+/* No task runs and no event can wake one. */
+bool world_dead(const struct table *k)
+{
+    if (k->active)
+        return false;
+    for (uint32_t i = 0; i < k->used; i++)
+        if (k->tasks[i].state == EVENT_BLOCKED)
+            return false;
+    return true;
+}
+
+/* ---- arguments ---- */
+
+static void good_room(struct world *w, int32_t *offset, int32_t *length)
+{
+    uint64_t *s = &w->seed;
+    uint32_t style = below(s, 10);
+    *length = style < 2 ? 0 : style < 6 ? (int32_t)below(s, 9)
+              : style < 9 ? (int32_t)below(s, AREA + 1) : AREA;
+    *offset = (int32_t)below(s, (uint32_t)(AREA - *length + 1));
+    if (chance(s, 5)) {          /* right up to the end */
+        *length = PICK(s, 0, 1, 2);
+        *offset = AREA - *length;
+    }
+}
+
+static void bad_room(struct world *w, int32_t *offset, int32_t *length)
+{
+    static const int32_t bad[][2] = {
+        {255, 2}, {256, 1}, {257, 0}, {0, 257}, {-1, 1}, {1, -1}, {-1, -1},
+        {INT32_MAX, 1}, {1, INT32_MAX}, {INT32_MAX, INT32_MAX}, {-1, 0},
+        {0, -1}, {INT32_MIN, INT32_MIN}, {INT32_MIN, 0}, {128, 129},
+        {300, -100}, {-100, 300}, {65536, 0}, {0, 65536}, {65535, 1}};
+    uint32_t i = below(&w->seed, sizeof bad / sizeof bad[0]);
+    *offset = bad[i][0];
+    *length = bad[i][1];
+}
+
+static void room(struct world *w, int32_t *arg)
+{
+    if (chance(&w->seed, 3))
+        bad_room(w, arg, arg + 1);
+    else
+        good_room(w, arg, arg + 1);
+}
+
+/* Would a Send to this task wait for the caller itself? */
+static bool closes_ring(const struct table *k, const struct task *t)
+{
+    for (int hops = 0; hops < TASKS && t->state == RECEIVE_BLOCKED; hops++) {
+        if (t->target == k->active)
+            return true;
+        t = t->target;
+    }
+    return t->state == RECEIVE_BLOCKED || t->state == EXITED;
+}
+
+static int32_t send_target(struct world *w)
+{
+    uint64_t *s = &w->seed;
+    struct table *k = &w->table;
+    struct task *t;
+    uint32_t style = below(s, 100);
+    if (style < 3)
+        return PICK(s, 0, -1, 32, 33, (int32_t)k->used + 1, INT32_MAX,
+                    INT32_MIN, 256 + 1, (int32_t)k->active->tid);
+    if (style < 7 && (t = some_task(w, EXITED)))
+        return t->tid;
+    if (style < 40 && (t = some_task(w, SEND_BLOCKED)))
+        return t->tid;
+    if (style < 70 && w->hot <= k->used && w->hot != k->active->tid &&
+        !closes_ring(k, &k->tasks[w->hot - 1]))
+        return (int32_t)w->hot;
+    t = &k->tasks[below(s, k->used)];
+    for (int tries = 0; tries < 8 && (t == k->active || closes_ring(k, t));
+         tries++)
+        t = &k->tasks[below(s, k->used)];
+    return t->tid;
+}
+
+static int32_t reply_target(struct world *w)
+{
+    uint64_t *s = &w->seed;
+    struct task *t = some_task(w, REPLY_BLOCKED);
+    if (t && chance(s, 90))
+        return t->tid;
+    if (chance(s, 30))
+        return PICK(s, 0, -1, 32, 33, (int32_t)w->table.used + 1, INT32_MAX);
+    return 1 + (int32_t)below(s, w->table.used);
+}
+
+static int32_t new_priority(struct world *w)
+{
+    if (w->priorities == 0)
+        return FIRST_PRIORITY;
+    if (w->priorities == 1)
+        return FIRST_PRIORITY - 2 + (int32_t)below(&w->seed, 5);
+    return (int32_t)below(&w->seed, PRIORITIES);
+}
+
+static int32_t some_event(struct world *w, uint32_t waited)
+{
+    struct task *t = some_task(w, EVENT_BLOCKED);
+    if (t && chance(&w->seed, waited))
+        return t->event;
+    if (chance(&w->seed, 5))
+        return PICK(&w->seed, 63, 64, -1, INT32_MAX, INT32_MIN, 65);
+    return (int32_t)below(&w->seed, EVENTS);
+}
+
+static int32_t some_data(struct world *w)
+{
+    return chance(&w->seed, 60)
+               ? (int32_t)below(&w->seed, 1000)
+               : PICK(&w->seed, 0, -5, INT32_MAX, -1, INT32_MIN, 1, 65536);
+}
+
+static void fill(struct world *w, struct request *q)
+{
+    uint64_t *s = &w->seed;
+    switch (q->kind) {
+    case CREATE:
+        q->arg[0] = chance(s, 4) ? PICK(s, -1, 32, 0, 31, 255, INT32_MIN)
+                                 : new_priority(w);
+        break;
+    case SEND:
+        q->arg[0] = send_target(w);
+        room(w, q->arg + 1);
+        room(w, q->arg + 3);
+        break;
+    case RECEIVE:
+        room(w, q->arg);
+        break;
+    case REPLY:
+        q->arg[0] = reply_target(w);
+        room(w, q->arg + 1);
+        break;
+    case AWAIT_EVENT:
+        q->arg[0] = some_event(w, 15);
+        break;
+    case EVENT:
+        q->arg[0] = some_event(w, 75);
+        q->arg[1] = some_data(w);
+        break;
+    case OWN_WRITE:
+        q->arg[0] = chance(s, 10) ? PICK(s, 255, 256, -1, INT32_MAX)
+                                  : (int32_t)below(s, AREA);
+        q->arg[1] = chance(s, 10) ? PICK(s, 255, 256, -1, INT32_MIN)
+                                  : (int32_t)below(s, 256);
+        break;
+    default:
+        break;
+    }
+}
+
+/* ---- kinds ---- */
+
+static int32_t busy_kind(struct world *w)
+{
+    uint32_t weight[12] = {0, 2, 3, 4, 6, 0, 0, 0, 4, 5, 12, 6};
+    uint32_t sum = 0;
+    if (w->table.used < TASKS)
+        weight[CREATE] = w->creates;
+    weight[EXIT] = w->exits;
+    if (some_task(w, REPLY_BLOCKED))
+        weight[REPLY] = 24;
+    weight[SEND] = w->sends;
+    weight[RECEIVE] = w->table.active->senders.head ? 40 : 1 + w->sends / 2;
+    for (int i = CREATE; i <= OWN_WRITE; i++)
+        sum += weight[i];
+    uint32_t at = below(&w->seed, sum);
+    int32_t kind = CREATE;
+    while (at >= weight[kind])
+        at -= weight[kind++];
+    return kind;
+}
+
+/* While idle only an event does anything. */
+static int32_t idle_kind(struct world *w)
+{
+    return chance(&w->seed, 85) ? EVENT
+                                : 1 + (int32_t)below(&w->seed, OWN_WRITE);
+}
+
+static void spoil(struct world *w, struct request *q)
+{
+    uint64_t *s = &w->seed;
+    uint32_t at = below(s, 5);
+    switch (below(s, 5)) {
+    case 0:
+        q->kind = PICK(s, 0, -1, 12, 13, INT32_MAX, INT32_MIN, 257, 65537);
+        break;
+    case 1:
+        q->kind = PICK(s, 10, 11, 1, 6, 7, 8, 9);
+        q->arg[0] = odd_number(s);
+        break;
+    case 2:
+        q->arg[at] = odd_number(s);
+        break;
+    case 3:
+        for (int i = 0; i < 5; i++)
+            q->arg[i] = odd_number(s);
+        break;
+    default:
+        bad_room(w, q->arg + below(s, 4), q->arg + 4);
+        break;
+    }
+}
+
+struct request world_choose(struct world *w)
+{
+    struct request q = {0, {0}};
+    /* what a kind does not name must not matter */
+    if (chance(&w->seed, 50))
+        for (int i = 0; i < 5; i++)
+            q.arg[i] = odd_number(&w->seed);
+    q.kind = w->table.active ? busy_kind(w) : idle_kind(w);
+    if (w->table.active || q.kind >= EVENT)
+        fill(w, &q);
+    if (chance(&w->seed, 10))
+        spoil(w, &q);
+    return q;
+}
+
+/* Tries a request on a copy, and looks for another if all would stand still,
+ * or, mostly, if it would leave one more task stuck. */
+struct request world_live(struct world *w)
+{
+    static struct table copy;
+    static uint8_t image[IMAGE_BYTES], areas[AREAS_BYTES];
+    struct request q = world_choose(w);
+    if (w->mortal || world_dead(&w->table))
+        return q;
+    table_write(&w->table, image);
+    for (int tries = 0; tries < 50; tries++) {
+        if (!table_read(&copy, image))
+            return q;
+        table_step(&copy, areas, &q);
+        if (!world_dead(&copy) && (stuck(&copy) <= stuck(&w->table) ||
+                                   chance(&w->seed, q.kind == EXIT ? 25 : 3)))
+            break;
+        q = world_choose(w);
+    }
+    return q;
+}
