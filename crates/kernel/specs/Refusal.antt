@@ -6,7 +6,7 @@ use mathlib.Core.Bool.{not, _&&_}
 use lib.Dec.{ltb, leb, eqb}
 use Rattle.queue.specs.Choose.{choose}
 use Rattle.kernel.specs.declared.table.Request.{Request}
-use Rattle.kernel.specs.Numbers.{createKind, eventKind, ownWriteKind, accepted, badKind, noneActive, badEvent, badWrite}
+use Rattle.kernel.specs.Numbers.{createKind, sendKind, receiveKind, replyKind, eventKind, ownWriteKind, accepted, badKind, noneActive, badEvent, badWrite}
 use Rattle.kernel.specs.Table.{events, areaBytes}
 
 -- the first refusal that holds, of a table of n slots whose active slot is a (n where none is); 0 where none does
@@ -22,3 +22,7 @@ refusalOf n a r =
 -- a request that is not refused, and is an entry
 abbrev pub Enters : ℕ → ℕ → Request → Type 0
 Enters n a r = (refusalOf n a r ≡ accepted) × (r .kind ≢ ownWriteKind)
+
+-- a kind that brings no message
+abbrev pub Alone : ℕ → Type 0
+Alone k = (k ≢ sendKind) × ((k ≢ receiveKind) × (k ≢ replyKind))

@@ -1,6 +1,7 @@
 -- The turn that the work of a request leaves: the table, the tid of a task that was made ready (0 for none), the caller's
 -- own next state and result, and what is to be done to the areas. And how an entry ends from there.
-use Prim.Native.Nat.{ℕ, _+_}
+use Prim.Native.Nat.{ℕ, _+_, _<_}
+use mathlib.Core.Path.{_≡_}
 use lib.Dec.{ltb}
 use Rattle.queue.specs.Choose.{choose}
 use Rattle.kernel.specs.declared.table.State.{State}
@@ -10,8 +11,9 @@ use Rattle.kernel.specs.declared.table.Outcome.the-variants.{Nothing}
 use Rattle.kernel.specs.declared.table.Effect.the-variants.{Keep}
 use Rattle.kernel.specs.declared.table.Table.{Table}
 use Rattle.kernel.specs.declared.table.Turn.{Turn}
+use Rattle.kernel.specs.declared.table.Rejoined.{Rejoined}
 use Rattle.kernel.specs.declared.table.Decision.{Decision}
-use Rattle.kernel.specs.Table.{slots, isReady}
+use Rattle.kernel.specs.Table.{priorities, slots, readyRow, isReady}
 use Rattle.kernel.specs.Moves.{leftAs, joinedTid, dispatched}
 
 -- nobody was woken, and the caller goes on with a result
@@ -37,3 +39,12 @@ settled c u =
     let woke = joinedTid (u .table) (u .woken) in
     let caller = readyTid (slots (u .table)) c (u .state) in
     dispatched (u .effect) (joinedTid (leftAs woke c (u .state) (u .outcome)) caller)
+
+-- a row to which the search for the first that is not empty goes, and no further: the last one, or one where somebody stands
+abbrev pub Reaches : Table → ℕ → Type 0
+Reaches t row = (row < priorities) × (row + 1 < priorities → 0 < readyRow t row .len)
+
+-- the caller has joined its queue, if it goes on, and the search goes to a row that is known
+pub record Rejoins (t : Table) (c : ℕ) (st : State) (o : Outcome) (r : Rejoined) : Type 0 where
+  pub joins : r .table ≡ joinedTid (leftAs t c st o) (readyTid (slots t) c st)
+  pub bound : Reaches (r .table) (r .last)

@@ -4,7 +4,7 @@ ghost use Prim.Native.Nat.{_<_};
 ghost use Rattle.queue.specs.Row.{places};
 ghost use Rattle.kernel.specs.Table.{areaBytes};
 ghost use Rattle.kernel.specs.Turn.{settled};
-ghost use Rattle.kernel.specs.Refusal.{refusalOf, Enters};
+ghost use Rattle.kernel.specs.Refusal.{refusalOf, Enters, Alone};
 ghost use Rattle.kernel.specs.Decide as Decide;
 ghost use Rattle.kernel.specs.Decide.{refused, turnOf, ownWrite, decideAt};
 use crate::numbers::ACCEPTED;
@@ -118,11 +118,6 @@ impl Table {
     {
         let kind = r.kind;
         match kind {
-            CREATE => self.create(c, r.arg0),
-            MY_TID => self.my_tid(c),
-            MY_PARENT_TID => self.my_parent_tid(c),
-            YIELD => self.yields(),
-            EXIT => self.exit(),
             SEND => self.send(
                 c,
                 r.arg0,
@@ -150,8 +145,24 @@ impl Table {
                     len: r.arg2,
                 },
             ),
+            _ => self.turned_alone(c, r),
+        }
+    }
+
+    // The kinds that bring no message.
+    fn turned_alone(self, c: usize, r: Request) -> Turn
+        requires { ⌜ Enters places c r × Alone (r .kind) ⌝ }
+        ensures { λ u. ⌜ u ≡ turnOf self c r ⌝ }
+    {
+        let kind = r.kind;
+        match kind {
+            CREATE => self.create(c, r.arg0),
+            MY_TID => self.my_tid(c),
+            MY_PARENT_TID => self.my_parent_tid(c),
+            YIELD => self.yields(),
             AWAIT_EVENT => self.await_event(c, r.arg0),
-            _ => self.event(r.arg0, r.arg1),
+            EVENT => self.event(r.arg0, r.arg1),
+            _ => self.exit(),
         }
     }
 }

@@ -4,6 +4,7 @@ ghost use mathlib.Core.Path.{_≡_};
 ghost use Prim.Native.Nat.{_<_, min};
 ghost use Rattle.queue.specs.Row.{places};
 ghost use Rattle.kernel.specs.Table.{events};
+ghost use Rattle.kernel.specs.Turn.{resumes};
 ghost use Rattle.kernel.specs.Kinds as Kinds;
 use crate::parts::good_buffer;
 use crate::parts::is_alive;
@@ -46,33 +47,29 @@ impl Table {
         requires { ⌜ c < places ⌝ }
         ensures { λ r. ⌜ r ≡ Kinds.create self c priority ⌝ }
     {
-        let mut woken = 0;
-        let mut outcome = Outcome::Fault(1);
         let p = priority as usize;
-        if p < PRIORITIES {
-            let tasks = self.tasks;
-            let s = used_slots(tasks);
-            if s < SLOTS {
-                self.tasks[s] = Task {
-                    state: State::Ready,
-                    priority: p as u8,
-                    parent: c as u8 + 1,
-                    outcome: Outcome::Nothing,
-                };
-                woken = s as u8 + 1;
-                outcome = Outcome::Value {
-                    from: 0,
-                    value: s as u32 + 1,
-                };
-            } else {
-                outcome = Outcome::Fault(2);
-            }
+        if PRIORITIES <= p {
+            return self.resumes(Outcome::Fault(1));
         }
+        let tasks = self.tasks;
+        let s = used_slots(tasks);
+        if SLOTS <= s {
+            return self.resumes(Outcome::Fault(2));
+        }
+        self.tasks[s] = Task {
+            state: State::Ready,
+            priority: p as u8,
+            parent: c as u8 + 1,
+            outcome: Outcome::Nothing,
+        };
         Turn {
             table: self,
-            woken,
+            woken: s as u8 + 1,
             state: State::Ready,
-            outcome,
+            outcome: Outcome::Value {
+                from: 0,
+                value: s as u32 + 1,
+            },
             effect: Effect::Keep,
         }
     }
@@ -294,23 +291,19 @@ impl Table {
         requires { ⌜ c < places ⌝ }
         ensures { λ r. ⌜ r ≡ Kinds.awaitEvent self c event ⌝ }
     {
-        let mut next = State::Ready;
-        let mut outcome = Outcome::Fault(1);
         let e = event as usize;
-        if e < EVENTS {
-            if self.waiters[e] == 0 {
-                self.waiters[e] = c as u8 + 1;
-                next = State::EventBlocked(e as u8);
-                outcome = Outcome::Nothing;
-            } else {
-                outcome = Outcome::Fault(3);
-            }
+        if EVENTS <= e {
+            return self.resumes(Outcome::Fault(1));
         }
+        if self.waiters[e] != 0 {
+            return self.resumes(Outcome::Fault(3));
+        }
+        self.waiters[e] = c as u8 + 1;
         Turn {
             table: self,
             woken: 0,
-            state: next,
-            outcome,
+            state: State::EventBlocked(e as u8),
+            outcome: Outcome::Nothing,
             effect: Effect::Keep,
         }
     }
@@ -322,19 +315,33 @@ impl Table {
     {
         let e = event as usize;
         let tid = self.waiters[e];
-        if 0 < tid {
-            let s = queue::slot(tid);
-            self.waiters[e] = 0;
-            if s < SLOTS {
-                let task = self.tasks[s];
-                self.tasks[s] = task.becomes(State::Ready, told(word));
-            }
+        if tid == 0 {
+            return self.resumes(Outcome::Nothing);
+        }
+        self.waiters[e] = 0;
+        let s = queue::slot(tid);
+        if s < SLOTS {
+            let task = self.tasks[s];
+            self.tasks[s] = task.becomes(State::Ready, told(word));
         }
         Turn {
             table: self,
             woken: tid,
             state: State::Ready,
             outcome: Outcome::Nothing,
+            effect: Effect::Keep,
+        }
+    }
+
+    // Nobody is woken, and the caller goes on with a result.
+    fn resumes(self, outcome: Outcome) -> Turn
+        ensures { λ r. ⌜ r ≡ resumes self outcome ⌝ }
+    {
+        Turn {
+            table: self,
+            woken: 0,
+            state: State::Ready,
+            outcome,
             effect: Effect::Keep,
         }
     }

@@ -68,20 +68,18 @@ pub fn message_of(state: State) -> Buffer
 pub fn reply_of(state: State) -> Buffer
     ensures { λ r. ⌜ r ≡ replyOf state ⌝ }
 {
-    match state {
-        State::Unused => Buffer { start: 0, len: 0 },
-        State::Active => Buffer { start: 0, len: 0 },
-        State::Ready => Buffer { start: 0, len: 0 },
-        State::SendBlocked(_) => Buffer { start: 0, len: 0 },
-        State::ReceiveBlocked {
-            target: _,
-            message: _,
-            reply,
-        } => reply,
-        State::ReplyBlocked(reply) => reply,
-        State::EventBlocked(_) => Buffer { start: 0, len: 0 },
-        State::Exited => Buffer { start: 0, len: 0 },
+    let mut buffer = Buffer { start: 0, len: 0 };
+    if let State::ReceiveBlocked {
+        target: _,
+        message: _,
+        reply,
+    } = state {
+        buffer = reply;
     }
+    if let State::ReplyBlocked(reply) = state {
+        buffer = reply;
+    }
+    buffer
 }
 
 // The tid that is sent to, or the event that is awaited.

@@ -117,6 +117,12 @@ pub struct Turn {
     pub effect: Effect,
 }
 
+// The table once the caller has joined, and a row that has somebody, or the last.
+pub(crate) struct Rejoined {
+    pub table: Table,
+    pub last: usize,
+}
+
 pub struct Decision {
     pub table: Table,
     pub answer: Answer,

@@ -2,14 +2,17 @@
 // table in place.
 ghost use mathlib.Core.Path.{_≡_};
 ghost use Rattle.queue.specs.Row.{places};
-ghost use Rattle.kernel.specs.Moves.{joinedTid, leftAs, dispatched};
-ghost use Rattle.kernel.specs.Turn.{tidOf, readyTid, settled};
+ghost use Rattle.kernel.specs.Moves.{joinedTid, dispatched};
+ghost use Rattle.kernel.specs.Turn.{tidOf, Reaches, Rejoins, settled};
 use crate::numbers::ACCEPTED;
+use crate::parts::READY;
+use crate::parts::state_code;
 use crate::table::Answer;
 use crate::table::Decision;
 use crate::table::Effect;
 use crate::table::Outcome;
 use crate::table::PRIORITIES;
+use crate::table::Rejoined;
 use crate::table::SLOTS;
 use crate::table::State;
 use crate::table::Table;
@@ -22,38 +25,55 @@ impl Table {
     {
         if 0 < tid {
             let s = queue::slot(tid);
+            let mut p = 0;
             if s < SLOTS {
                 let task = self.tasks[s];
-                let p = queue::wide(task.priority);
-                if p < PRIORITIES {
-                    let q = self.ready[p];
-                    self.ready[p] = q.pushed(tid);
-                }
-            } else {
-                let q = self.ready[0];
-                self.ready[0] = q.pushed(tid);
+                p = queue::wide(task.priority);
+            }
+            if p < PRIORITIES {
+                let q = self.ready[p];
+                self.ready[p] = q.pushed(tid);
             }
         }
         self
     }
 
-    // A task is left in a state, with a result to be told.
-    pub(crate) fn left(mut self, s: usize, state: State, outcome: Outcome) -> Self
-        ensures { λ r. ⌜ r ≡ leftAs self s state outcome ⌝ }
+    // The caller is left in a state, with a result to be told, and joins the tail of the queue of its priority if it is
+    // ready. No row past the last one that is answered has to be looked at.
+    fn rejoined(mut self, c: usize, state: State, outcome: Outcome) -> Rejoined
+        ensures { λ r. ⌜ Rejoins self c state outcome r ⌝ }
     {
-        if s < SLOTS {
-            let task = self.tasks[s];
-            self.tasks[s] = task.becomes(state, outcome);
+        let mut last = PRIORITIES - 1;
+        if c < SLOTS {
+            let task = self.tasks[c];
+            self.tasks[c] = task.becomes(state, outcome);
+            if state_code(state) == READY {
+                let p = queue::wide(task.priority);
+                if p < PRIORITIES {
+                    let q = self.ready[p];
+                    self.ready[p] = q.pushed(c as u8 + 1);
+                    last = p;
+                }
+            }
         }
-        self
+        Rejoined { table: self, last }
     }
 
     // The head of the first queue that is not empty runs next, and is told its result.
-    pub(crate) fn dispatched(mut self, effect: Effect) -> Decision
+    fn dispatched(mut self, last: usize, effect: Effect) -> Decision
+        requires { ⌜ Reaches self last ⌝ }
         ensures { λ r. ⌜ r ≡ dispatched effect self ⌝ }
     {
-        let ready = self.ready;
-        let first = queue::first_filled(ready);
+        let mut k = 0;
+        let first = loop {
+            if 0 < self.ready[k].len {
+                break k;
+            }
+            if k == last {
+                break PRIORITIES;
+            }
+            k += 1;
+        };
         let mut next = 0;
         let mut told = Outcome::Nothing;
         if first < PRIORITIES {
@@ -90,11 +110,9 @@ impl Table {
     ) -> Decision
         ensures { λ r. ⌜ r ≡ settled c (record { table = self; woken = woken; state = state; outcome = outcome; effect = effect }) ⌝ }
     {
-        let caller = ready_tid(c, state);
-        self.joined(woken)
-            .left(c, state, outcome)
-            .joined(caller)
-            .dispatched(effect)
+        let rejoined = self.joined(woken).rejoined(c, state, outcome);
+        let table = rejoined.table;
+        table.dispatched(rejoined.last, effect)
     }
 }
 
@@ -103,14 +121,4 @@ pub(crate) fn tid_of(s: usize) -> u8
     ensures { λ r. ⌜ r ≡ tidOf places s ⌝ }
 {
     if s < SLOTS { s as u8 + 1 } else { 0 }
-}
-
-// The tid of a slot that is left ready; 0 where it waits or has stopped, or is past the last.
-fn ready_tid(s: usize, state: State) -> u8
-    ensures { λ r. ⌜ r ≡ readyTid places s state ⌝ }
-{
-    if let State::Ready = state {
-        return tid_of(s);
-    }
-    0
 }

@@ -4,13 +4,14 @@ pub mod areas;
 ghost use mathlib.Core.Path.{_≡_};
 ghost use mathlib.Core.Bool.{true};
 ghost use lib.ListN.{length};
-ghost use Rattle.kernel.specs.Decide.{decide};
+ghost use Rattle.kernel.specs.Decide.{decideAt, decide};
 ghost use Rattle.rules.specs.Good.{goodTable};
 ghost use Rattle.step.specs.Step as Step;
 ghost use Rattle.step.specs.Step.{Stepped};
 use crate::areas::apply;
 use kernel::numbers::BAD_AREAS;
 use kernel::numbers::BAD_TABLE;
+use kernel::search::first_active;
 use kernel::table::AREA;
 use kernel::table::Decision;
 use kernel::table::Request;
@@ -29,17 +30,22 @@ pub fn step(table: Table, r: Request, areas: &mut [u8]) -> Decision
     if !checked.good {
         return table.refused(BAD_TABLE, 0);
     }
-    let decision = table.decide_at(checked.active, r);
-    let effect = decision.effect;
-    apply(effect, &mut *areas);
-    decision
+    carried_out(table, checked.active, r, &mut *areas)
 }
 
 // A step of a table that is known to be good, which is not checked again: a good table is left good.
 pub fn proceed(table: Table, r: Request, areas: &mut [u8]) -> Decision
     ensures { λ d. ⌜ Stepped (decide table r) (now (areas .entry)) d (now (areas .exit)) × (goodTable table ≡ true → goodTable (d .table) ≡ true) ⌝ }
 {
-    let decision = table.decide(r);
+    let tasks = table.tasks;
+    carried_out(table, first_active(tasks), r, &mut *areas)
+}
+
+// The decision where the task of slot `a` is active, and what it does to the areas.
+fn carried_out(table: Table, a: usize, r: Request, areas: &mut [u8]) -> Decision
+    ensures { λ d. ⌜ Stepped (decideAt table a r) (now (areas .entry)) d (now (areas .exit)) ⌝ }
+{
+    let decision = table.decide_at(a, r);
     let effect = decision.effect;
     apply(effect, &mut *areas);
     decision

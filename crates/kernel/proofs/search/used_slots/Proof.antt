@@ -1,75 +1,14 @@
--- `used_slots`. The loop's invariant: the slots before `s` are used. The measure is what is left of them.
-use Prim.Native.Nat.{ℕ, _-_, _≤_, _<_}
-use mathlib.Core.Path.{_≡_}
-use mathlib.Core.Bool.{Bool, false, not}
-use mathlib.Core.List.{List}
-use native.Mathlib.Omega.{arith}
-use lib.ListN.{getD}
-use borrow.Author.Count.{below-more}
+-- `used_slots`: the first slot that is not used is the first one that is unused.
 use borrow.Author.Needs.{needs}
-use borrow.Author.Tests.{lt-ltb}
-use Rattle.queue.specs.Row.{places}
-use Rattle.queue.proofs.Below.{first-ends}
-use Rattle.kernel.specs.declared.table.Task.{Task}
-use Rattle.kernel.specs.Table.{noTask, isUsed}
+use Rattle.kernel.proofs.Tests.{zero-test}
 use Rattle.kernel.proofs.search.used_slots.Statement.{statement}
 use Rattle.kernel.proofs.search.used_slots.Tie as tie
 
-abbrev free : List Task → ℕ → Bool
-free tasks s = not (isUsed (getD tasks s noTask .state))
+first-with-requires : tie.Need-first-with-requires
+first-with-requires c κs = search needs
 
-abbrev Inv-loop : tie.InvT-loop
-Inv-loop tasks s₀ s = (s ≤ places) × ((j : ℕ) → j < s → free tasks j ≡ false)
-
-abbrev μ-loop : tie.MeasureT-loop
-μ-loop tasks s₀ s = places - s
-
-loop-holds : tie.Need-loop-holds Inv-loop μ-loop
-loop-holds c = (omega arith, λ j h. absurd (omega arith))
-
-mul-task : tie.Need-mul-task Inv-loop μ-loop
-mul-task c = search needs
-
-array-copy-out-task : tie.Need-array-copy-out-task Inv-loop μ-loop
-array-copy-out-task c = search needs
-
-state-code-requires : tie.Need-state-code-requires Inv-loop μ-loop
-state-code-requires c κs = search needs
-
-add-s : tie.Need-add-s Inv-loop μ-loop
-add-s c = search needs
-
-loop-less : tie.Need-loop-less Inv-loop μ-loop
-loop-less c = search needs
-
-loop-again : tie.Need-loop-again Inv-loop μ-loop
-loop-again c = (
-  omega arith,
-  below-more _ _ (c .before .before .before .before .loop .inv .1) (rw (← c .before .state-code .ensures, lt-ltb 0 (c .before .state-code .result) (omega arith))),
-)
-
-returns : tie.Need-returns Inv-loop μ-loop
-returns c =
-    first-ends places _ places (omega arith) (λ j h. c .before .loop .inv .1 j (omega arith)) (λ h. absurd (omega arith))
-
-returns-2 : tie.Need-returns-2 Inv-loop μ-loop
-returns-2 c =
-    let search = c .before .before .before .before .loop in
-    first-ends places _ (search .s) (search .inv .0) (search .inv .1)
-    (λ h. rw (← c .before .state-code .ensures, c .if2 .taken))
+returns : tie.Need-returns
+returns c = simp zero-test at (c .first-with .ensures)
 
 pub used-slots-spec : {M : Type 1} → statement M
-used-slots-spec =
-    tie.close
-    (tie.spec
-    Inv-loop
-    μ-loop
-    loop-holds
-    mul-task
-    array-copy-out-task
-    state-code-requires
-    add-s
-    loop-less
-    loop-again
-    returns
-    returns-2)
+used-slots-spec = tie.close (tie.spec first-with-requires returns)

@@ -1,44 +1,26 @@
--- `Table::settled` is the chain of its four moves.
-use mathlib.Core.Path.{_≡_}
-use lib.ListN.{length}
+-- `Table::settled` is the chain of its moves.
 use borrow.Author.Needs.{needs}
-use Rattle.queue.specs.Row.{places}
 use Rattle.kernel.specs.Turn.{settled}
-use Rattle.kernel.proofs.Owned.{owned-shaped}
+use Rattle.kernel.proofs.Rejoin.{slots-joined}
 use Rattle.kernel.proofs.table.Table.settled.Statement.{statement}
 use Rattle.kernel.proofs.table.Table.settled.Tie as tie
-
-slots-all : (c : tie.Start) → length (c .args .self .tasks) ≡ places
-slots-all c = owned-shaped (c .args .self) _ (c .good .0) .tasks
-
-ready-tid-requires : tie.Need-ready-tid-requires
-ready-tid-requires c κs = search needs
 
 joined-requires : tie.Need-joined-requires
 joined-requires c κs = search needs
 
-left-requires : tie.Need-left-requires
-left-requires c κs = search needs
-
-joined-requires-2 : tie.Need-joined-requires-2
-joined-requires-2 c κs = search needs
+rejoined-requires : tie.Need-rejoined-requires
+rejoined-requires c κs = search needs
 
 dispatched-requires : tie.Need-dispatched-requires
-dispatched-requires c κs = search needs
+dispatched-requires c κs = c .before .rejoined .ensures .bound
 
 returns : tie.Need-returns
 unfolding settled
 returns c =
-    let asked = c .before .before .before .before in
-    rw (c .dispatched .ensures, c .before .joined2 .ensures, c .before .before .left .ensures, c .before .before .before .joined .ensures, asked .ready-tid .ensures, slots-all (asked .before))
+    let back = c .before .before in
+    let woke = back .before in
+    let start = woke .before in
+    rw (c .dispatched .ensures, back .rejoined .ensures .joins, woke .joined .ensures, slots-joined (start .args .self) (start .args .woken))
 
 pub settled-spec : {M : Type 1} → statement M
-settled-spec =
-    tie.close
-    (tie.spec
-    ready-tid-requires
-    joined-requires
-    left-requires
-    joined-requires-2
-    dispatched-requires
-    returns)
+settled-spec = tie.close (tie.spec joined-requires rejoined-requires dispatched-requires returns)

@@ -1,28 +1,29 @@
--- `first_active`. The loop's invariant: the slots before `s` are not active. The measure is what is left of them.
+-- `first_with`. The loop's invariant: the slots before `s` have another number. The measure is what is left of them.
 use Prim.Native.Nat.{ℕ, _-_, _≤_, _<_}
 use mathlib.Core.Path.{_≡_}
 use mathlib.Core.Bool.{Bool, false}
 use mathlib.Core.List.{List}
 use native.Mathlib.Omega.{arith}
 use lib.ListN.{getD}
+use lib.Dec.{eqb}
 use borrow.Author.Count.{below-more}
 use borrow.Author.Needs.{needs}
 use borrow.Author.Tests.{eq-eqb, ne-eqb}
 use Rattle.queue.specs.Row.{places}
 use Rattle.queue.proofs.Below.{first-ends}
 use Rattle.kernel.specs.declared.table.Task.{Task}
-use Rattle.kernel.specs.Table.{noTask, isActive}
-use Rattle.kernel.proofs.search.first_active.Statement.{statement}
-use Rattle.kernel.proofs.search.first_active.Tie as tie
+use Rattle.kernel.specs.Table.{noTask, stateCode}
+use Rattle.kernel.proofs.search.first_with.Statement.{statement}
+use Rattle.kernel.proofs.search.first_with.Tie as tie
 
-abbrev active : List Task → ℕ → Bool
-active tasks s = isActive (getD tasks s noTask .state)
+abbrev coded : ℕ → List Task → ℕ → Bool
+coded code tasks s = eqb (stateCode (getD tasks s noTask .state)) code
 
 abbrev Inv-loop : tie.InvT-loop
-Inv-loop tasks s₀ s = (s ≤ places) × ((j : ℕ) → j < s → active tasks j ≡ false)
+Inv-loop code tasks s₀ s = (s ≤ places) × ((j : ℕ) → j < s → coded code tasks j ≡ false)
 
 abbrev μ-loop : tie.MeasureT-loop
-μ-loop tasks s₀ s = places - s
+μ-loop code tasks s₀ s = places - s
 
 loop-holds : tie.Need-loop-holds Inv-loop μ-loop
 loop-holds c = (omega arith, λ j h. absurd (omega arith))
@@ -58,8 +59,8 @@ returns-2 c =
     first-ends places _ (search .s) (search .inv .0) (search .inv .1)
     (λ h. rw (← c .before .state-code .ensures) (eq-eqb _ _ (c .if2 .taken)))
 
-pub first-active-spec : {M : Type 1} → statement M
-first-active-spec =
+pub first-with-spec : {M : Type 1} → statement M
+first-with-spec =
     tie.close
     (tie.spec
     Inv-loop
