@@ -1,18 +1,16 @@
 -- Bytes are the image of a good table exactly where the table that they give is good and each record is exact.
 use Prim.Native.Nat.{ℕ, zero, suc, _+_, _-_, _*_, _≤_, _<_}
+use mathlib.Core.Path.{_≡_, refl, sym, ap, ap₂, _∙_}
+use mathlib.Core.Logic.{_⊎_, inl, inr, ⊎-elim}
+use mathlib.Core.Bool.{true, _&&_, false≢true}
+use mathlib.Core.List.{List}
 use native.Mathlib.Nat.{suc-mul, mul-le-mul-right}
 use native.Mathlib.Omega.{arith}
 use native.Mathlib.Decide.{ℕ-discrete, decLt}
-use mathlib.Core.Path.{_≡_, refl, sym, ap, ap₂, _∙_}
-use mathlib.Core.Logic.{_⊎_, inl, inr, ⊎-elim}
-use mathlib.Core.Bool.{true, false, _&&_, false≢true}
-use mathlib.Core.List.{List, [], _∷_, _++_}
 use lib.ListN.{length, getD, take, drop, set, replicate, length-take, length-drop, getD-replicate, length-replicate, List·getD-eq-default}
 use lib.Seq.{set-out, getD-set-same, getD-set-other, getD-drop, getD-take, take-all, take-add}
-use lib.Dec.{eqb}
 use borrow.Author.Tests.{eqb-true, eq-eqb}
 use Rattle.queue.specs.declared.Queue.{Queue}
-use Rattle.queue.specs.Choose.{allBelow}
 use Rattle.queue.specs.Row.{placeAt, placeOf, emptyRow}
 use Rattle.queue.specs.Rows.{noRow, rowAt}
 use Rattle.queue.specs.Placed.{placedRow, placed}
@@ -21,7 +19,7 @@ use Rattle.queue.proofs.Below.{by-test, same-test, all-below, below-all}
 use Rattle.queue.proofs.Facts.{slot-place}
 use Rattle.kernel.specs.declared.table.Table.{Table}
 use Rattle.kernel.specs.Table.{priorities, noTask, taskAt, stateCode, awaited, slots, usedSlots, isUsed, isReady, isReceiveBlocked}
-use Rattle.rules.specs.Good.{goodTable, readyKey, sendersKey}
+use Rattle.rules.specs.Good.{goodTable}
 use Rattle.rules.specs.Facts.{UsedFacts, Good}
 use Rattle.rules.proofs.Good.{good-facts}
 use Rattle.rules.proofs.Tasks.{state-facts}

@@ -1,17 +1,16 @@
 -- A record is exact exactly where it is what its task is written as.
-use Prim.Native.Nat.{ℕ, zero, suc, _+_, _*_, _/_, _%_, _^_, _≤_, _<_}
+use Prim.Native.Nat.{ℕ, zero, suc, _+_, _*_, _/_, _%_, _^_, _<_}
+use mathlib.Core.Path.{_≡_, refl, sym, ap, _∙_}
+use mathlib.Core.Bool.{Bool, true, false, _&&_, _||_}
+use mathlib.Core.List.{List, [], _∷_, _++_}
 use native.Mathlib.Omega.{arith, pow-step}
 use native.Mathlib.Decide.{ℕ-discrete}
-use mathlib.Core.Path.{_≡_, refl, sym, ap, _∙_}
-use mathlib.Core.Bool.{Bool, true, false, _&&_, _||_, false≢true}
-use mathlib.Core.List.{List, [], _∷_, _++_}
-use lib.ListN.{length, getD, drop, replicate, length-replicate, getD-replicate, drop-of-length-le}
+use lib.ListN.{length, getD, drop, replicate, getD-replicate, drop-of-length-le}
 use lib.Seq.{drop-cons, ext-getD}
 use lib.Dec.{eqb, ltb}
-use borrow.Author.Tests.{eqb-true, eq-eqb, ne-eqb, lt-ltb, ltb-true, ltb-false, eqb-false}
-use Rattle.queue.specs.Choose.{choose, allBelow}
+use borrow.Author.Tests.{eqb-true, eq-eqb, ne-eqb, lt-ltb}
+use Rattle.queue.specs.Choose.{choose}
 use Rattle.queue.proofs.Below.{both-true, true-both, by-test, same-test, all-below, below-all}
-use Rattle.kernel.specs.declared.table.Buffer.{Buffer}
 use Rattle.kernel.specs.declared.table.Outcome.{Outcome}
 use Rattle.kernel.specs.declared.table.Outcome.the-variants.{Nothing, Fault}
 use Rattle.kernel.specs.declared.table.State.{State}
@@ -20,7 +19,7 @@ use Rattle.kernel.specs.declared.table.Task.{Task}
 use Rattle.image.specs.declared.fields.Parts.{Parts}
 use Rattle.image.specs.declared.fields.Told.{Told}
 use Rattle.image.specs.Bytes.{bytesOf, numberIn, same}
-use Rattle.kernel.specs.Result.{negated, resultKind, resultFrom, resultWord}
+use Rattle.kernel.specs.Result.{negated, resultWord}
 use Rattle.image.specs.Told.{toldOf}
 use Rattle.image.specs.Record.{recordLength, atState, atPriority, atParent, atPlace, atAwaited, atResult, atMessage, atReply, atFrom, atSpare, atWord, byteIn, bufferIn, bufferBytes, partsOf, partsIn, toldIn, stateFrom, outcomeFrom, fields, taskRecord, usedFrom, taskFrom, placeFrom}
 use Rattle.image.specs.Exact.{sameParts, sameTold, exactRest, exactUsed, exactRecord}

@@ -1,12 +1,10 @@
 -- `image::call::put_answer` meets its contract, word by word.
+use mathlib.Core.Path.{_≡_}
+use lib.ListN.{length}
 use borrow.Author.Tests.{eq-eqb, ne-eqb}
+use borrow.Author.Needs.{needs}
 use Rattle.image.specs.Call.{answerLength}
 use Rattle.image.proofs.Made.{answer-made}
-use Prim.Native.Nat.{ℕ, _+_, _-_, _*_, _≤_, _<_}
-use mathlib.Core.Path.{_≡_}
-use native.Mathlib.Omega.{arith}
-use lib.ListN.{length, getD, set, take, drop}
-use borrow.Author.Needs.{needs}
 use Rattle.image.proofs.call.put_answer.Statement.{statement}
 use Rattle.image.proofs.call.put_answer.Tie as tie
 

@@ -1,11 +1,10 @@
 -- `image::call::request_from` meets its contract, word by word.
-use borrow.Author.Tests.{eq-eqb, ne-eqb}
-use Rattle.image.specs.Call.{requestLength, requestFrom}
-use Prim.Native.Nat.{ℕ, _+_, _-_, _*_, _≤_, _<_}
 use mathlib.Core.Path.{_≡_}
 use native.Mathlib.Omega.{arith}
-use lib.ListN.{length, getD, set, take, drop}
+use lib.ListN.{length}
+use borrow.Author.Tests.{eq-eqb, ne-eqb}
 use borrow.Author.Needs.{needs}
+use Rattle.image.specs.Call.{requestLength, requestFrom}
 use Rattle.image.proofs.call.request_from.Statement.{statement}
 use Rattle.image.proofs.call.request_from.Tie as tie
 

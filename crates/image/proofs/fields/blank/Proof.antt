@@ -1,13 +1,13 @@
 -- `image::fields::blank` meets its contract. The loop's invariant: the first i bytes were looked at.
+use Prim.Native.Nat.{_-_, _≤_}
 use mathlib.Core.Path.{refl, _≡_}
+use native.Mathlib.Omega.{arith}
 use lib.Dec.{eqb}
+use lib.ListN.{getD}
+use borrow.Author.Needs.{needs}
 use Rattle.queue.specs.Choose.{allBelow}
 use Rattle.queue.proofs.Below.{all-more}
 use Rattle.image.specs.Record.{recordLength}
-use Prim.Native.Nat.{ℕ, _+_, _-_, _*_, _≤_, _<_}
-use native.Mathlib.Omega.{arith}
-use lib.ListN.{length, getD, set, take, drop}
-use borrow.Author.Needs.{needs}
 use Rattle.image.proofs.fields.blank.Statement.{statement}
 use Rattle.image.proofs.fields.blank.Tie as tie
 

@@ -1,12 +1,8 @@
 -- `image::fields::entry_of` meets its contract, part by part.
+use borrow.Author.Needs.{needs}
 use Rattle.image.proofs.Made.{entry-made}
 use Rattle.image.specs.Record.{taskFrom}
 use Rattle.image.specs.Exact.{exactRecord}
-use Prim.Native.Nat.{ℕ, _+_, _-_, _*_, _≤_, _<_}
-use mathlib.Core.Path.{_≡_}
-use native.Mathlib.Omega.{arith}
-use lib.ListN.{length, getD, set, take, drop}
-use borrow.Author.Needs.{needs}
 use Rattle.image.proofs.fields.entry_of.Statement.{statement}
 use Rattle.image.proofs.fields.entry_of.Tie as tie
 

@@ -1,10 +1,6 @@
 -- `image::fields::fields_of` meets its contract, field by field.
-use Rattle.image.proofs.Made.{record-made}
-use Prim.Native.Nat.{ℕ, _+_, _-_, _*_, _≤_, _<_}
-use mathlib.Core.Path.{_≡_}
-use native.Mathlib.Omega.{arith}
-use lib.ListN.{length, getD, set, take, drop}
 use borrow.Author.Needs.{needs}
+use Rattle.image.proofs.Made.{record-made}
 use Rattle.image.proofs.fields.fields_of.Statement.{statement}
 use Rattle.image.proofs.fields.fields_of.Tie as tie
 

@@ -1,11 +1,9 @@
 -- `image::fields::outcome_from` meets its contract, test by test.
-use mathlib.Core.Path.{ap, _≡_}
-use borrow.Author.Tests.{lt-ltb, le-ltb, ne-eqb}
-use Rattle.kernel.specs.declared.table.Outcome.the-variants.{Fault}
-use Prim.Native.Nat.{ℕ, _+_, _-_, _*_, _≤_, _<_}
+use mathlib.Core.Path.{ap}
 use native.Mathlib.Omega.{arith}
-use lib.ListN.{length, getD, set, take, drop}
+use borrow.Author.Tests.{lt-ltb, le-ltb, ne-eqb}
 use borrow.Author.Needs.{needs}
+use Rattle.kernel.specs.declared.table.Outcome.the-variants.{Fault}
 use Rattle.image.proofs.fields.outcome_from.Statement.{statement}
 use Rattle.image.proofs.fields.outcome_from.Tie as tie
 

@@ -1,10 +1,6 @@
 -- `image::fields::parts_in` meets its contract, part by part.
-use Rattle.image.specs.Record.{byteIn, atState, atAwaited}
-use Prim.Native.Nat.{ℕ, _+_, _-_, _*_, _≤_, _<_}
-use mathlib.Core.Path.{_≡_}
-use native.Mathlib.Omega.{arith}
-use lib.ListN.{length, getD, set, take, drop}
 use borrow.Author.Needs.{needs}
+use Rattle.image.specs.Record.{byteIn, atState, atAwaited}
 use Rattle.image.proofs.fields.parts_in.Statement.{statement}
 use Rattle.image.proofs.fields.parts_in.Tie as tie
 

@@ -1,8 +1,4 @@
 -- `image::fields::parts_of` meets its contract, state by state.
-use Prim.Native.Nat.{ℕ, _+_, _-_, _*_, _≤_, _<_}
-use mathlib.Core.Path.{_≡_}
-use native.Mathlib.Omega.{arith}
-use lib.ListN.{length, getD, set, take, drop}
 use borrow.Author.Needs.{needs}
 use Rattle.image.proofs.fields.parts_of.Statement.{statement}
 use Rattle.image.proofs.fields.parts_of.Tie as tie

@@ -1,10 +1,5 @@
 -- `image::fields::state_from` meets its contract, arm by arm.
 use borrow.Author.Tests.{ne-eqb}
-use Prim.Native.Nat.{ℕ, _+_, _-_, _*_, _≤_, _<_}
-use mathlib.Core.Path.{_≡_}
-use native.Mathlib.Omega.{arith}
-use lib.ListN.{length, getD, set, take, drop}
-use borrow.Author.Needs.{needs}
 use Rattle.image.proofs.fields.state_from.Statement.{statement}
 use Rattle.image.proofs.fields.state_from.Tie as tie
 

@@ -1,10 +1,6 @@
 -- `image::fields::told_of` meets its contract: 0 minus a fault wraps to its negative word.
-use Rattle.image.proofs.Made.{negated-wraps}
-use Prim.Native.Nat.{ℕ, _+_, _-_, _*_, _≤_, _<_}
-use mathlib.Core.Path.{_≡_}
-use native.Mathlib.Omega.{arith}
-use lib.ListN.{length, getD, set, take, drop}
 use borrow.Author.Needs.{needs}
+use Rattle.image.proofs.Made.{negated-wraps}
 use Rattle.image.proofs.fields.told_of.Statement.{statement}
 use Rattle.image.proofs.fields.told_of.Tie as tie
 

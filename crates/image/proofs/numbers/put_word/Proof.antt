@@ -1,10 +1,8 @@
 -- `image::numbers::put_word` meets its contract, byte by byte.
-use lib.ListN.{length-set, length, getD, set, take, drop}
-use Rattle.image.proofs.Made.{four-stored}
-use Prim.Native.Nat.{ℕ, _+_, _-_, _*_, _≤_, _<_}
-use mathlib.Core.Path.{_≡_}
 use native.Mathlib.Omega.{arith}
+use lib.ListN.{length-set}
 use borrow.Author.Needs.{needs}
+use Rattle.image.proofs.Made.{four-stored}
 use Rattle.image.proofs.numbers.put_word.Statement.{statement}
 use Rattle.image.proofs.numbers.put_word.Tie as tie
 

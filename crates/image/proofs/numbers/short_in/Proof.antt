@@ -1,8 +1,8 @@
 -- `image::numbers::short_in` meets its contract: each byte is below 256.
 use Prim.Native.Nat.{ℕ}
+use mathlib.Core.Path.{ap}
 use native.Mathlib.Omega.{arith}
 use native.Mathlib.Numerals.{add-one}
-use mathlib.Core.Path.{ap}
 use lib.ListN.{getD}
 use borrow.Author.Needs.{needs}
 use Rattle.image.proofs.numbers.short_in.Statement.{statement}

@@ -1,8 +1,8 @@
 -- `image::numbers::word_in` meets its contract: each byte is below 256.
 use Prim.Native.Nat.{ℕ}
+use mathlib.Core.Path.{ap}
 use native.Mathlib.Numerals.{add-one, add-two, add-three}
 use native.Mathlib.Omega.{arith}
-use mathlib.Core.Path.{ap}
 use lib.ListN.{getD}
 use borrow.Author.Needs.{needs}
 use Rattle.image.proofs.numbers.word_in.Statement.{statement}

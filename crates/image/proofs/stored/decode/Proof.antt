@@ -1,7 +1,11 @@
-use mathlib.Core.Path.{sym, refl, ap, _∙_, _≡_}
 -- `image::stored::decode` meets its contract. The loop's invariant: the parts are those of the table after the first s records, and those are exact or not.
+use Prim.Native.Nat.{ℕ, _+_, _-_, _*_, _≤_}
+use mathlib.Core.Path.{sym, refl, ap, _∙_, _≡_}
 use mathlib.Core.Logic.{⊎-elim}
 use mathlib.Core.List.{List}
+use native.Mathlib.Omega.{arith}
+use lib.ListN.{take, drop}
+use borrow.Author.Needs.{needs}
 use Rattle.queue.specs.Choose.{allBelow}
 use Rattle.queue.specs.Row.{places}
 use Rattle.queue.proofs.Below.{all-more}
@@ -14,10 +18,6 @@ use Rattle.image.specs.Image.{tableUpTo}
 use Rattle.image.specs.Exact.{exactUpTo}
 use Rattle.image.proofs.Shape.{table-shaped}
 use Rattle.image.proofs.Loops.{table-more, row-placed, none-placed}
-use Prim.Native.Nat.{ℕ, _+_, _-_, _*_, _≤_, _<_}
-use native.Mathlib.Omega.{arith}
-use lib.ListN.{length, getD, set, take, drop}
-use borrow.Author.Needs.{needs}
 use Rattle.image.proofs.stored.decode.Statement.{statement}
 use Rattle.image.proofs.stored.decode.Tie as tie
 

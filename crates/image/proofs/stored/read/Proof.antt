@@ -1,6 +1,10 @@
 -- `image::stored::read` meets its contract, refusal by refusal.
+use Prim.Native.Nat.{_*_}
 use mathlib.Core.Path.{sym, ap, ap₂, _∙_, _≡_}
 use mathlib.Core.Bool.{_&&_}
+use native.Mathlib.Omega.{arith}
+use lib.ListN.{length}
+use borrow.Author.Needs.{needs}
 use Rattle.queue.specs.Row.{places}
 use Rattle.rules.specs.declared.Checked.{Checked}
 use Rattle.kernel.specs.Table.{activeSlot}
@@ -10,10 +14,6 @@ use Rattle.image.specs.Record.{recordLength}
 use Rattle.image.specs.Image.{tableOf, isImage, reading}
 use Rattle.image.proofs.Exact.{image-exact}
 use Rattle.image.proofs.Made.{read-short, read-bad, read-good}
-use Prim.Native.Nat.{ℕ, _+_, _-_, _*_, _≤_, _<_}
-use native.Mathlib.Omega.{arith}
-use lib.ListN.{length, getD, set, take, drop}
-use borrow.Author.Needs.{needs}
 use Rattle.image.proofs.stored.read.Statement.{statement}
 use Rattle.image.proofs.stored.read.Tie as tie
 

@@ -1,11 +1,7 @@
 -- `image::stored::refused` meets its contract: where every slot is unused, none is active.
+use borrow.Author.Needs.{needs}
 use Rattle.queue.specs.Choose.{firstFrom}
 use Rattle.kernel.specs.Table.{activeSlot}
-use Prim.Native.Nat.{ℕ, _+_, _-_, _*_, _≤_, _<_}
-use mathlib.Core.Path.{_≡_}
-use native.Mathlib.Omega.{arith}
-use lib.ListN.{length, getD, set, take, drop}
-use borrow.Author.Needs.{needs}
 use Rattle.image.proofs.stored.refused.Statement.{statement}
 use Rattle.image.proofs.stored.refused.Tie as tie
 

@@ -1,9 +1,13 @@
 -- `image::stored::store` meets its contract. The loop's invariant: the first s records are written, and behind them the bytes are as they were.
+use Prim.Native.Nat.{ℕ, _+_, _-_, _*_, _≤_}
 use mathlib.Core.Path.{refl, sym, ap, _∙_, _≡_}
 use mathlib.Core.Logic.{⊎-elim}
 use mathlib.Core.List.{List, _++_}
+use native.Mathlib.Omega.{arith}
 use lib.Seq.{paste}
+use lib.ListN.{length, drop}
 use borrow.Author.Tests.{eq-eqb, ne-eqb}
+use borrow.Author.Needs.{needs}
 use Rattle.queue.specs.Row.{places}
 use Rattle.kernel.specs.Table.{slots, taskAt, stateCode}
 use Rattle.kernel.proofs.Owned.{owned-shaped}
@@ -12,10 +16,6 @@ use Rattle.image.specs.Record.{recordLength, standsAt, fields, recordOf}
 use Rattle.image.proofs.Record.{length-recordOf, unused-record, used-record}
 use Rattle.image.proofs.Stands.{none-stands, stands-made, stands-most}
 use Rattle.image.proofs.Loops.{image-more, image-all}
-use Prim.Native.Nat.{ℕ, _+_, _-_, _*_, _≤_, _<_}
-use native.Mathlib.Omega.{arith}
-use lib.ListN.{length, getD, set, take, drop}
-use borrow.Author.Needs.{needs}
 use Rattle.image.proofs.stored.store.Statement.{statement}
 use Rattle.image.proofs.stored.store.Tie as tie
 

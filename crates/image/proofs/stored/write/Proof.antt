@@ -1,16 +1,15 @@
 -- `image::stored::write` meets its contract, refusal by refusal.
+use Prim.Native.Nat.{_*_}
 use mathlib.Core.Path.{sym, ap, _∙_, _≡_}
+use lib.ListN.{length}
 use borrow.Author.Tests.{not-true, not-false}
+use borrow.Author.Needs.{needs}
 use Rattle.queue.specs.Row.{places}
 use Rattle.rules.specs.declared.Checked.{Checked}
 use Rattle.kernel.specs.Table.{slots}
 use Rattle.kernel.proofs.Owned.{owned-shaped}
 use Rattle.image.specs.Record.{recordLength}
 use Rattle.image.proofs.Made.{write-short, write-bad, write-good}
-use Prim.Native.Nat.{ℕ, _+_, _-_, _*_, _≤_, _<_}
-use native.Mathlib.Omega.{arith}
-use lib.ListN.{length, getD, set, take, drop}
-use borrow.Author.Needs.{needs}
 use Rattle.image.proofs.stored.write.Statement.{statement}
 use Rattle.image.proofs.stored.write.Tie as tie
 
