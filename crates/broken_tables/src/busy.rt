@@ -1,4 +1,5 @@
 // A table with tasks in every state, made by steps from a fresh kernel.
+use crate::put::task_of;
 use kernel::numbers::AWAIT_EVENT;
 use kernel::numbers::CREATE;
 use kernel::numbers::EXIT;
@@ -10,6 +11,7 @@ use kernel::table::Request;
 use kernel::table::SLOTS;
 use kernel::table::Table;
 use libc::STDOUT_FILENO;
+use queue::NO_ROW;
 
 // A request of the active task. A Send's message has 4 bytes, and its reply is awaited in 4 bytes from 8 on.
 fn asked(table: Table, kind: u32, arg0: u32, arg1: u32) -> Table {
@@ -55,16 +57,27 @@ pub(crate) fn busy() -> Table {
     asked(eleven, CREATE, 20, 0)
 }
 
-// The number of each slot's state, so that the busy table is seen to be busy.
+// Tids 6, 1, 11 and 12 exit in turn, and nobody is left to run.
+pub(crate) fn idle(table: Table) -> Table {
+    let six = asked(table, EXIT, 0, 0);
+    let one = asked(six, EXIT, 0, 0);
+    let eleven = asked(one, EXIT, 0, 0);
+    asked(eleven, EXIT, 0, 0)
+}
+
+// The number of a task's state.
+fn write_state(table: Table, tid: u8) {
+    let task = task_of(table, tid);
+    let state = task.state;
+    io::write_all(STDOUT_FILENO, b" ");
+    io::print_decimal(STDOUT_FILENO, state_code(state) as u64);
+}
+
+// The states of all slots, so that the busy table is seen to be busy.
 pub(crate) fn write_states(table: Table) {
-    io::write_all(STDOUT_FILENO, b"states");
-    let mut s = 0;
-    while s < SLOTS {
-        let task = table.tasks[s];
-        let state = task.state;
-        io::write_all(STDOUT_FILENO, b" ");
-        io::print_decimal(STDOUT_FILENO, state_code(state) as u64);
-        s += 1;
+    let mut tid = 1;
+    while tid <= NO_ROW {
+        write_state(table, tid);
+        tid += 1;
     }
-    io::write_all(STDOUT_FILENO, b"\n");
 }

@@ -3,6 +3,7 @@
 // has, stand in stored records only, and are broken there.
 mod borders;
 mod busy;
+mod change;
 mod events;
 mod put;
 mod rows;
@@ -12,53 +13,45 @@ mod tasks;
 use crate::busy::busy;
 use crate::busy::write_states;
 use crate::tally::Tally;
-use kernel::table::Table;
+use libc::STDOUT_FILENO;
 
-fn break_tasks(tally: Tally, t: Table) -> Tally {
-    let used = tasks::first_run(tally, t);
-    let parents = tasks::parents(used, t);
-    let active = tasks::active(parents, t);
-    let priorities = tasks::priorities(active, t);
-    let buffers = tasks::buffers(priorities, t);
-    let holders = tasks::holders(buffers, t);
-    tasks::results(holders, t)
+fn break_tasks(tally: Tally) -> Tally {
+    let slots = tasks::unused(tasks::first_run(tally));
+    let parents = tasks::parents(slots);
+    let active = tasks::active(parents);
+    let priorities = tasks::priorities(active);
+    let buffers = tasks::sent_buffers(tasks::buffers(priorities));
+    tasks::results(tasks::holders(buffers))
 }
 
-fn break_rows(tally: Tally, t: Table) -> Tally {
-    let once = rows::ready_once(tally, t);
-    let strangers = rows::ready_strangers(once, t);
-    let ready = rows::ready_places(strangers, t);
-    let once = rows::senders_once(ready, t);
-    let strangers = rows::senders_strangers(once, t);
-    let senders = rows::senders_places(strangers, t);
-    rows::targets(senders, t)
+fn break_ready(tally: Tally) -> Tally {
+    let once = rows::ready_once(tally);
+    let others = rows::ready_strangers(rows::ready_blocked(once));
+    rows::ready_ends(others)
 }
 
-fn break_events(tally: Tally, t: Table) -> Tally {
-    let named = events::named(tally, t);
-    events::waiting(named, t)
+fn break_senders(tally: Tally) -> Tally {
+    let once = rows::senders_once(tally);
+    let others = rows::senders_strangers(rows::senders_blocked(once));
+    rows::targets(rows::senders_ends(others))
 }
 
-fn keep_rules(tally: Tally, t: Table) -> Tally {
-    let tasks = borders::tasks(tally, t);
-    let ready = borders::ready(tasks, t);
-    let senders = borders::senders(ready, t);
-    borders::events(senders, t)
+fn break_events(tally: Tally) -> Tally {
+    events::waiting(events::strangers(events::named(tally)))
+}
+
+fn keep_rules(tally: Tally) -> Tally {
+    let tasks = borders::tasks(borders::numbers(tally));
+    borders::waiting(borders::rows(tasks))
 }
 
 fn main() {
-    let table = busy();
-    write_states(table);
-    let none = Tally {
-        broken: 0,
-        refused: 0,
-        good: 0,
-        accepted: 0,
-    };
-    let whole = none.accepts(b"the busy table", table);
-    let tasks = break_tasks(whole, table);
-    let rows = break_rows(tasks, table);
-    let events = break_events(rows, table);
-    let tally = keep_rules(events, table);
-    tally.write();
+    io::write_all(STDOUT_FILENO, b"states");
+    write_states(busy());
+    let whole = Tally::of(true).found(b"\nthe busy table", busy());
+    let rows = break_senders(break_ready(break_tasks(Tally::of(false))));
+    let broken = break_events(rows);
+    let good = keep_rules(whole);
+    broken.write(b" broken tables refused, ");
+    good.write(b" good ones accepted\n");
 }

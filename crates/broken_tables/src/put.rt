@@ -33,16 +33,12 @@ pub(crate) fn buffer(start: u32, len: u32) -> Buffer {
     Buffer { start, len }
 }
 
-pub(crate) fn value(from: u8, value: u32) -> Outcome {
-    Outcome::Value { from, value }
-}
-
-// What an unused slot holds.
-pub(crate) fn blank_task() -> Task {
+// A task of priority 0 with no result.
+pub(crate) fn bare(state: State, parent: u8) -> Task {
     Task {
-        state: State::Unused,
+        state,
         priority: 0,
-        parent: 0,
+        parent,
         outcome: Outcome::Nothing,
     }
 }

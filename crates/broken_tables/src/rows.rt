@@ -1,247 +1,116 @@
-// The rules of the queues, each broken alone. `t` is the busy table: tid 1 is ready at priority 16, tids 11 and 12 at 20, and
-// tid 6 active at 12; tids 8 and 9 are queued at tid 6, tid 10 at tid 1.
-use crate::put::buffer;
-use crate::put::last_place;
-use crate::put::row;
-use crate::put::with_ready;
-use crate::put::with_senders;
-use crate::put::with_state;
+// The rules of the queues, each broken alone. In the busy table tid 1 is ready at priority 16, tids 11 and 12 at 20, and tid 6
+// active at 12; tids 8 and 9 are queued at tid 6, tid 10 at tid 1.
 use crate::tally::Tally;
-use kernel::table::State;
-use kernel::table::Table;
 
 // Each ready task stands once in the queue of its priority.
-pub(crate) fn ready_once(tally: Tally, t: Table) -> Tally {
-    let without = with_ready(t, 20, row(11, 0, 0, 1));
+pub(crate) fn ready_once(tally: Tally) -> Tally {
     tally
-        .refuses(
-            b"a ready task twice in its queue",
-            with_ready(t, 20, row(11, 12, 11, 3)),
+        .ready(b"a ready task twice in its queue", 20, 11, 12, 11, 3)
+        .ready(b"a ready task twice, side by side", 20, 11, 12, 12, 3)
+        .ready(b"a ready task in two queues", 21, 12, 0, 0, 1)
+        .strays(b"a ready task in a queue above its own", 19)
+        .strays(b"a ready task in a queue below its own", 21)
+        .ready(
+            b"a ready task in no queue, its queue not empty",
+            20,
+            11,
+            0,
+            0,
+            1,
         )
-        .refuses(
-            b"a ready task twice, side by side",
-            with_ready(t, 20, row(11, 12, 12, 3)),
-        )
-        .refuses(
-            b"a ready task in two queues",
-            with_ready(t, 21, row(12, 0, 0, 1)),
-        )
-        .refuses(
-            b"a ready task in a queue above its own",
-            with_ready(without, 19, row(12, 0, 0, 1)),
-        )
-        .refuses(
-            b"a ready task in a queue below its own",
-            with_ready(without, 21, row(12, 0, 0, 1)),
-        )
-        .refuses(b"a ready task in no queue, its queue not empty", without)
-        .refuses(
-            b"a ready task in no queue, its queue empty",
-            with_ready(t, 16, row(0, 0, 0, 0)),
-        )
+        .ready(b"a ready task in no queue, its queue empty", 16, 0, 0, 0, 0)
 }
 
-// Nobody else stands in a ready queue.
-pub(crate) fn ready_strangers(tally: Tally, t: Table) -> Tally {
+// Nobody else stands in a ready queue: no task that is not ready,
+pub(crate) fn ready_blocked(tally: Tally) -> Tally {
     tally
-        .refuses(
-            b"the active task in its ready queue",
-            with_ready(t, 12, row(6, 0, 0, 1)),
-        )
-        .refuses(
-            b"a send-blocked task in its ready queue",
-            with_ready(t, 10, row(4, 0, 0, 1)),
-        )
-        .refuses(
-            b"a receive-blocked task in its ready queue",
-            with_ready(t, 11, row(8, 0, 0, 1)),
-        )
-        .refuses(
-            b"a reply-blocked task in its ready queue",
-            with_ready(t, 12, row(7, 0, 0, 1)),
-        )
-        .refuses(
-            b"an event-blocked task in its ready queue",
-            with_ready(t, 8, row(2, 0, 0, 1)),
-        )
-        .refuses(
-            b"an exited task in its ready queue",
-            with_ready(t, 11, row(5, 0, 0, 1)),
-        )
-        .refuses(
-            b"an unused tid in a ready queue",
-            with_ready(t, 0, row(13, 0, 0, 1)),
-        )
-        .refuses(
-            b"tid 33 in a ready queue",
-            with_ready(t, 20, row(11, 12, 33, 3)),
-        )
-        .refuses(
-            b"tid 255 in a ready queue",
-            with_ready(t, 31, row(255, 0, 0, 1)),
-        )
+        .ready(b"the active task in its ready queue", 12, 6, 0, 0, 1)
+        .ready(b"a send-blocked task in its ready queue", 10, 4, 0, 0, 1)
+        .ready(b"a receive-blocked task in its ready queue", 11, 8, 0, 0, 1)
+        .ready(b"a reply-blocked task in its ready queue", 12, 7, 0, 0, 1)
+        .ready(b"an event-blocked task in its ready queue", 8, 2, 0, 0, 1)
+        .ready(b"an exited task in its ready queue", 11, 5, 0, 0, 1)
 }
 
-// Zero is no tid, a queue is no longer than its row, and the places past its end hold 0.
-pub(crate) fn ready_places(tally: Tally, t: Table) -> Tally {
+// and no tid of no task. Zero is no tid.
+pub(crate) fn ready_strangers(tally: Tally) -> Tally {
     tally
-        .refuses(
-            b"a zero at the head of a ready queue",
-            with_ready(t, 20, row(0, 11, 12, 3)),
-        )
-        .refuses(
-            b"a zero inside a ready queue",
-            with_ready(t, 20, row(11, 0, 12, 3)),
-        )
-        .refuses(
-            b"a zero at the tail of a ready queue",
-            with_ready(t, 20, row(11, 12, 0, 3)),
-        )
-        .refuses(
-            b"a ready queue of length 33",
-            with_ready(t, 20, row(11, 12, 0, 33)),
-        )
-        .refuses(
-            b"a ready queue of length 255",
-            with_ready(t, 20, row(11, 12, 0, 255)),
-        )
-        .refuses(
-            b"a ready task just past its queue's end",
-            with_ready(t, 20, row(11, 12, 0, 1)),
-        )
-        .refuses(
-            b"a member again past the end",
-            with_ready(t, 20, row(11, 12, 11, 2)),
-        )
-        .refuses(
-            b"tid 33 past the end",
-            with_ready(t, 20, row(11, 12, 33, 2)),
-        )
-        .refuses(
-            b"the last place of an empty ready queue",
-            with_ready(t, 31, last_place(1)),
-        )
+        .ready(b"an unused tid in a ready queue", 0, 13, 0, 0, 1)
+        .ready(b"tid 33 in a ready queue", 20, 11, 12, 33, 3)
+        .ready(b"tid 255 in a ready queue", 31, 255, 0, 0, 1)
+        .ready(b"a zero at the head of a ready queue", 20, 0, 11, 12, 3)
+        .ready(b"a zero inside a ready queue", 20, 11, 0, 12, 3)
+        .ready(b"a zero at the tail of a ready queue", 20, 11, 12, 0, 3)
 }
 
-// Each receive-blocked task stands once in the send queue of its target.
-pub(crate) fn senders_once(tally: Tally, t: Table) -> Tally {
-    let without = with_senders(t, 1, row(0, 0, 0, 0));
+// A queue is no longer than its row, and the places past its end hold 0.
+pub(crate) fn ready_ends(tally: Tally) -> Tally {
     tally
-        .refuses(
-            b"a sender twice in its queue",
-            with_senders(t, 6, row(8, 9, 8, 3)),
+        .ready(b"a ready queue of length 33", 20, 11, 12, 0, 33)
+        .ready(b"a ready queue of length 255", 20, 11, 12, 0, 255)
+        .ready(b"a ready task just past its queue's end", 20, 11, 12, 0, 1)
+        .ready(
+            b"a ready task again past its queue's end",
+            20,
+            11,
+            12,
+            11,
+            2,
         )
-        .refuses(
-            b"a sender in two queues",
-            with_senders(t, 1, row(10, 8, 0, 2)),
-        )
-        .refuses(b"a sender in no queue", without)
-        .refuses(
-            b"a sender in the queue of another task",
-            with_senders(without, 2, row(10, 0, 0, 1)),
-        )
-        .refuses(
-            b"a sender in its own queue",
-            with_senders(without, 10, row(10, 0, 0, 1)),
-        )
-        .refuses(
-            b"a sender in an unused task's queue",
-            with_senders(without, 13, row(10, 0, 0, 1)),
-        )
+        .ready(b"tid 33 past the end of a ready queue", 20, 11, 12, 33, 2)
+        .ready_last(b"the last place of an empty ready queue", 31, 1)
 }
 
-// Nobody else stands in a send queue.
-pub(crate) fn senders_strangers(tally: Tally, t: Table) -> Tally {
+// Each receive-blocked task stands once in the send queue of its target. That of tid 10 is tid 1.
+pub(crate) fn senders_once(tally: Tally) -> Tally {
     tally
-        .refuses(
-            b"the active task in its own send queue",
-            with_senders(t, 6, row(8, 9, 6, 3)),
-        )
-        .refuses(
-            b"a ready task in a send queue",
-            with_senders(t, 1, row(10, 11, 0, 2)),
-        )
-        .refuses(
-            b"a send-blocked task in a send queue",
-            with_senders(t, 1, row(10, 4, 0, 2)),
-        )
-        .refuses(
-            b"a reply-blocked task in a send queue",
-            with_senders(t, 6, row(7, 8, 9, 3)),
-        )
-        .refuses(
-            b"an event-blocked task in a send queue",
-            with_senders(t, 1, row(2, 10, 0, 2)),
-        )
-        .refuses(
-            b"an exited task in a send queue",
-            with_senders(t, 1, row(10, 5, 0, 2)),
-        )
-        .refuses(
-            b"an unused tid in a send queue",
-            with_senders(t, 1, row(10, 13, 0, 2)),
-        )
-        .refuses(
-            b"tid 33 in a send queue",
-            with_senders(t, 1, row(10, 33, 0, 2)),
-        )
+        .senders(b"a sender twice in its queue", 6, 8, 9, 8, 3)
+        .senders(b"a sender in two queues", 1, 10, 8, 0, 2)
+        .senders(b"a sender in no queue", 1, 0, 0, 0, 0)
+        .sent(b"a sender in the queue of another task", 1, 2)
+        .sent(b"a sender in its own queue", 1, 10)
+        .sent(b"a sender in an unused task's queue", 1, 13)
 }
 
-pub(crate) fn senders_places(tally: Tally, t: Table) -> Tally {
+// Nobody else stands in a send queue: no task that is not receive-blocked,
+pub(crate) fn senders_blocked(tally: Tally) -> Tally {
     tally
-        .refuses(
-            b"a zero inside a send queue",
-            with_senders(t, 6, row(8, 0, 9, 3)),
-        )
-        .refuses(
-            b"a zero in an unused task's send queue",
-            with_senders(t, 32, row(0, 0, 0, 1)),
-        )
-        .refuses(
-            b"a send queue of length 33",
-            with_senders(t, 6, row(8, 9, 0, 33)),
-        )
-        .refuses(
-            b"a send queue of length 255",
-            with_senders(t, 6, row(8, 9, 0, 255)),
-        )
-        .refuses(
-            b"a sender just past its queue's end",
-            with_senders(t, 6, row(8, 9, 0, 1)),
-        )
-        .refuses(
-            b"a sender again past the end",
-            with_senders(t, 6, row(8, 9, 8, 2)),
-        )
-        .refuses(
-            b"the last place of an empty send queue",
-            with_senders(t, 32, last_place(33)),
-        )
+        .senders(b"the active task in its own send queue", 6, 8, 9, 6, 3)
+        .senders(b"a ready task in a send queue", 1, 10, 11, 0, 2)
+        .senders(b"a send-blocked task in a send queue", 1, 10, 4, 0, 2)
+        .senders(b"a reply-blocked task in a send queue", 6, 7, 8, 9, 3)
+        .senders(b"an event-blocked task in a send queue", 1, 2, 10, 0, 2)
+        .senders(b"an exited task in a send queue", 1, 10, 5, 0, 2)
 }
 
-// Tid 10 sends to a target, and stands in a send queue alone.
-fn sent(t: Table, target: u8, stands_at: u8) -> Table {
-    let state = State::ReceiveBlocked {
-        target,
-        message: buffer(0, 4),
-        reply: buffer(8, 4),
-    };
-    let nowhere = with_senders(with_state(t, 10, state), 1, row(0, 0, 0, 0));
-    with_senders(nowhere, stands_at, row(10, 0, 0, 1))
+// and no tid of no task.
+pub(crate) fn senders_strangers(tally: Tally) -> Tally {
+    tally
+        .senders(b"an unused tid in a send queue", 1, 10, 13, 0, 2)
+        .senders(b"tid 33 in a send queue", 1, 10, 33, 0, 2)
+        .senders(b"a zero inside a send queue", 6, 8, 0, 9, 3)
+        .senders(b"a zero in an unused task's send queue", 32, 0, 0, 0, 1)
+}
+
+// The ends of the send queues.
+pub(crate) fn senders_ends(tally: Tally) -> Tally {
+    tally
+        .senders(b"a send queue of length 33", 6, 8, 9, 0, 33)
+        .senders(b"a send queue of length 255", 6, 8, 9, 0, 255)
+        .senders(b"a sender just past its queue's end", 6, 8, 9, 0, 1)
+        .senders(b"a sender again past its queue's end", 6, 8, 9, 8, 2)
+        .senders_last(b"the last place of an empty send queue", 32, 33)
 }
 
 // A target is used and another task; one that is send-blocked has no queued sender.
-// Tid 10 stands in the queue of its target wherever there is one; a target of 0 is sought in the first.
-pub(crate) fn targets(tally: Tally, t: Table) -> Tally {
+// Tid 10 stands in the queue of its target where there is one, and a target of 0 is sought in the first.
+pub(crate) fn targets(tally: Tally) -> Tally {
     tally
-        .refuses(b"a target of 0", sent(t, 0, 1))
-        .refuses(b"a target that is the sender itself", sent(t, 10, 10))
-        .refuses(b"a target that is unused", sent(t, 13, 13))
-        .refuses(b"a target that is the last slot, unused", sent(t, 32, 32))
-        .refuses(b"a target of 33, the sender in no queue", sent(t, 33, 33))
-        .refuses(
-            b"a target of 255, the sender in no queue",
-            sent(t, 255, 255),
-        )
-        .refuses(b"a send-blocked task with a queued sender", sent(t, 4, 4))
+        .sent(b"a target of 0", 0, 1)
+        .sent(b"a target that is the sender itself", 10, 10)
+        .sent(b"a target that is unused", 13, 13)
+        .sent(b"a target that is the last slot, unused", 32, 32)
+        .sent(b"a target of 33, the sender in no queue", 33, 33)
+        .sent(b"a target of 255, the sender in no queue", 255, 255)
+        .sent(b"a send-blocked task with a queued sender", 4, 4)
 }

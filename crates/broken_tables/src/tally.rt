@@ -8,12 +8,11 @@ use kernel::table::Table;
 use libc::STDOUT_FILENO;
 use std::num::wrapping_add_u64;
 
-// How many tables were broken and how many of them refused; how many were good and how many of them accepted.
+// How many tables of a kind, good ones or broken ones, were tried, and how many of them were found to be so.
 pub(crate) struct Tally {
-    pub broken: u64,
-    pub refused: u64,
-    pub good: u64,
-    pub accepted: u64,
+    pub good: bool,
+    pub tried: u64,
+    pub found: u64,
 }
 
 // Whether a step of the table is accepted: an event that nobody awaits, which is refused only for a broken rule.
@@ -32,56 +31,52 @@ fn is_accepted(table: Table) -> bool {
     answer.verdict == ACCEPTED
 }
 
-fn line(name: &[u8], found: &[u8]) {
+// What was found of a table, in capitals where it should not have been.
+fn line(name: &[u8], good: bool, accepted: bool) {
     io::write_all(STDOUT_FILENO, name);
-    io::write_all(STDOUT_FILENO, b": ");
-    io::write_all(STDOUT_FILENO, found);
-    io::write_all(STDOUT_FILENO, b"\n");
+    if good {
+        if accepted {
+            io::write_all(STDOUT_FILENO, b": accepted\n");
+        } else {
+            io::write_all(STDOUT_FILENO, b": REFUSED\n");
+        }
+    } else {
+        if accepted {
+            io::write_all(STDOUT_FILENO, b": ACCEPTED\n");
+        } else {
+            io::write_all(STDOUT_FILENO, b": refused\n");
+        }
+    }
 }
 
 impl Tally {
-    // A table that breaks a rule, and the name of what is broken.
-    pub(crate) fn refuses(self, name: &[u8], table: Table) -> Self {
-        let mut refused = self.refused;
-        if is_accepted(table) {
-            line(name, b"ACCEPTED");
-        } else {
-            line(name, b"refused");
-            refused = wrapping_add_u64(refused, 1);
+    pub(crate) fn of(good: bool) -> Self {
+        Self {
+            good,
+            tried: 0,
+            found: 0,
+        }
+    }
+
+    // Writes and counts what a step says of a table.
+    pub(crate) fn found(self, name: &[u8], table: Table) -> Self {
+        let accepted = is_accepted(table);
+        line(name, self.good, accepted);
+        let mut found = self.found;
+        if accepted == self.good {
+            found = wrapping_add_u64(found, 1);
         }
         Tally {
-            broken: wrapping_add_u64(self.broken, 1),
-            refused,
             good: self.good,
-            accepted: self.accepted,
+            tried: wrapping_add_u64(self.tried, 1),
+            found,
         }
     }
 
-    // A table that keeps the rules, just.
-    pub(crate) fn accepts(self, name: &[u8], table: Table) -> Self {
-        let mut accepted = self.accepted;
-        if is_accepted(table) {
-            line(name, b"accepted");
-            accepted = wrapping_add_u64(accepted, 1);
-        } else {
-            line(name, b"REFUSED");
-        }
-        Tally {
-            broken: self.broken,
-            refused: self.refused,
-            good: wrapping_add_u64(self.good, 1),
-            accepted,
-        }
-    }
-
-    pub(crate) fn write(self) {
-        io::print_decimal(STDOUT_FILENO, self.refused);
-        io::write_all(STDOUT_FILENO, b" refused of ");
-        io::print_decimal(STDOUT_FILENO, self.broken);
-        io::write_all(STDOUT_FILENO, b" broken, ");
-        io::print_decimal(STDOUT_FILENO, self.accepted);
-        io::write_all(STDOUT_FILENO, b" accepted of ");
-        io::print_decimal(STDOUT_FILENO, self.good);
-        io::write_all(STDOUT_FILENO, b" good\n");
+    pub(crate) fn write(self, words: &[u8]) {
+        io::print_decimal(STDOUT_FILENO, self.found);
+        io::write_all(STDOUT_FILENO, b" of ");
+        io::print_decimal(STDOUT_FILENO, self.tried);
+        io::write_all(STDOUT_FILENO, words);
     }
 }
