@@ -2,3 +2,4 @@ pub mod Tests
 pub mod Owned
 mod States
 pub mod Refusals
+mod Determined

@@ -1,0 +1,43 @@
+-- Each public function's own promise leaves no choice: see `Determines` in queue/specs/Determined.antt.
+use mathlib.Core.Path.{refl, _∙⁻¹_}
+use Rattle.queue.specs.Determined.{DeterminesResult}
+use Rattle.kernel.proofs.parts.state_code.Reads as state-code
+use Rattle.kernel.proofs.parts.message_of.Reads as message-of
+use Rattle.kernel.proofs.parts.reply_of.Reads as reply-of
+use Rattle.kernel.proofs.parts.awaited.Reads as awaited
+use Rattle.kernel.proofs.parts.good_buffer.Reads as good-buffer
+use Rattle.kernel.proofs.search.first_active.Reads as first-active
+use Rattle.kernel.proofs.search.used_slots.Reads as used-slots
+use Rattle.kernel.proofs.table.Table.decide.Reads as decide
+use Rattle.kernel.proofs.table.Table.decide_at.Reads as decide-at
+use Rattle.kernel.proofs.table.Table.refused.Reads as refused
+
+state-code-determined : (κs : _) (a : _) → DeterminesResult (state-code.Post κs a)
+state-code-determined κs a r r′ s s′ p p′ = (p ∙⁻¹ p′, refl)
+
+message-of-determined : (κs : _) (a : _) → DeterminesResult (message-of.Post κs a)
+message-of-determined κs a r r′ s s′ p p′ = (p ∙⁻¹ p′, refl)
+
+reply-of-determined : (κs : _) (a : _) → DeterminesResult (reply-of.Post κs a)
+reply-of-determined κs a r r′ s s′ p p′ = (p ∙⁻¹ p′, refl)
+
+awaited-determined : (κs : _) (a : _) → DeterminesResult (awaited.Post κs a)
+awaited-determined κs a r r′ s s′ p p′ = (p ∙⁻¹ p′, refl)
+
+good-buffer-determined : (κs : _) (a : _) → DeterminesResult (good-buffer.Post κs a)
+good-buffer-determined κs a r r′ s s′ p p′ = (p ∙⁻¹ p′, refl)
+
+first-active-determined : (κs : _) (a : _) → DeterminesResult (first-active.Post κs a)
+first-active-determined κs a r r′ s s′ p p′ = (p ∙⁻¹ p′, refl)
+
+used-slots-determined : (κs : _) (a : _) → DeterminesResult (used-slots.Post κs a)
+used-slots-determined κs a r r′ s s′ p p′ = (p ∙⁻¹ p′, refl)
+
+decide-determined : (κs : _) (a : _) → DeterminesResult (decide.Post κs a)
+decide-determined κs a r r′ s s′ p p′ = (p ∙⁻¹ p′, refl)
+
+decide-at-determined : (κs : _) (a : _) → DeterminesResult (decide-at.Post κs a)
+decide-at-determined κs a r r′ s s′ p p′ = (p ∙⁻¹ p′, refl)
+
+refused-determined : (κs : _) (a : _) → DeterminesResult (refused.Post κs a)
+refused-determined κs a r r′ s s′ p p′ = (p ∙⁻¹ p′, refl)
