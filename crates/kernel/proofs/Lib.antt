@@ -3,3 +3,5 @@ pub mod Owned
 mod States
 pub mod Refusals
 mod Rejoin
+mod Lent
+mod Determined

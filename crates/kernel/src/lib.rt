@@ -2,6 +2,7 @@
 mod decide;
 mod kinds;
 pub mod numbers;
+mod outcome;
 pub mod parts;
 pub mod search;
 pub mod table;

@@ -69,6 +69,12 @@ impl Task {
     }
 }
 
+// A task whose result has been taken out of its record, and that result.
+pub struct Taken {
+    pub task: Task,
+    pub outcome: Outcome,
+}
+
 pub struct Table {
     pub tasks: [Task; SLOTS],
     pub ready: [Queue; PRIORITIES],

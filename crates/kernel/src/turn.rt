@@ -5,6 +5,7 @@ ghost use Rattle.queue.specs.Row.{places};
 ghost use Rattle.kernel.specs.Moves.{joinedTid, dispatched};
 ghost use Rattle.kernel.specs.Turn.{tidOf, Reaches, Rejoins, settled};
 use crate::numbers::ACCEPTED;
+use crate::outcome::taken;
 use crate::parts::READY;
 use crate::parts::state_code;
 use crate::table::Answer;
@@ -82,9 +83,12 @@ impl Table {
             self.ready[first] = q.popped();
             let s = queue::slot(next);
             if s < SLOTS {
-                let task = self.tasks[s];
-                told = task.outcome;
-                self.tasks[s] = task.becomes(State::Active, Outcome::Nothing);
+                let waiting = self.tasks[s];
+                let shown = taken(waiting);
+                told = shown.outcome;
+                let task = shown.task;
+                let nothing = task.outcome;
+                self.tasks[s] = task.becomes(State::Active, nothing);
             }
         }
         Decision {

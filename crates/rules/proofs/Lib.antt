@@ -7,3 +7,4 @@ pub mod Entries
 pub mod Fresh
 pub mod Kept
 pub mod Walk
+mod Determined
