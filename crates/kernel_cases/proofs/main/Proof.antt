@@ -1,5 +1,6 @@
 -- `main`: what is written lies within the buffer.
-use mathlib.Core.Path.{sym}
+use mathlib.Core.Path.{_≡_, sym}
+use native.Mathlib.Omega.{arith}
 use lib.Seq.{length-take-le}
 use borrow.Author.Needs.{needs}
 use Rattle.kernel_cases.proofs.main.Statement.{statement}
@@ -11,8 +12,8 @@ slice-aggregate-read-full c = search needs
 read-full-requires : tie.Need-read-full-requires
 read-full-requires c κs = search needs
 
-start-requires : tie.Need-start-requires
-start-requires c κs = search needs
+fresh-block-requires : tie.Need-fresh-block-requires
+fresh-block-requires c κs = search needs
 
 array-share-prefix-records : tie.Need-array-share-prefix-records
 array-share-prefix-records c = search needs
@@ -30,12 +31,18 @@ show-block-requires : tie.Need-show-block-requires
 show-block-requires c κs = search needs
 
 array-share-prefix-out : tie.Need-array-share-prefix-out
-array-share-prefix-out c = search needs
+array-share-prefix-out c =
+    let done = c .before .before in
+    let first = done .before .before .before .before .fresh-block in
+    let none : first .result .end ≡ 0 = rw (first .ensures) in
+    omega (arith, done .show-block .ensures .0 .shown .ended)
 
 slice-aggregate-write-all : tie.Need-slice-aggregate-write-all
 slice-aggregate-write-all c =
-    let done = c .before .before .before .show-block in
-    sym (length-take-le (done .result .end) (done .last .1 .1 .1 .0) (search needs))
+    let done = c .before .before .before in
+    let first = done .before .before .before .before .fresh-block in
+    let none : first .result .end ≡ 0 = rw (first .ensures) in
+    sym (length-take-le (done .show-block .result .end) (done .show-block .last .1 .1 .1 .0) (omega (arith, done .show-block .ensures .0 .shown .ended)))
 
 write-all-requires : tie.Need-write-all-requires
 write-all-requires c κs = search needs
@@ -49,7 +56,7 @@ main-spec =
     (tie.spec
     slice-aggregate-read-full
     read-full-requires
-    start-requires
+    fresh-block-requires
     array-share-prefix-records
     slice-aggregate-show-block
     slice-aggregate-show-block-2
