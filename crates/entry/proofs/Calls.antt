@@ -22,7 +22,7 @@ use Rattle.rules.proofs.Kept.{kept}
 use Rattle.step.specs.Step.{after}
 use Rattle.image.specs.declared.stored.Reading.{Reading}
 use Rattle.image.specs.Record.{recordLength}
-use Rattle.image.specs.Image.{tableOf, isImage, reading, readImage, stored}
+use Rattle.image.specs.Image.{tableOf, isImage, reading, givenImage, stored}
 use Rattle.image.specs.Call.{requestLength, requestFrom, answerLength, answered}
 use Rattle.image.proofs.Shape.{table-shaped}
 use Rattle.entry.specs.Entry.{Call, call, unfit, due, called, AnsweredBy, startCall, startCalled}
@@ -98,15 +98,15 @@ module _ (n : ℕ) (image areas request answer : List ℕ) where
 
 -- what reading an image of the right length tells
 module _ (n : ℕ) (image : List ℕ) (sized : length image ≡ n * recordLength) where
-  pub read-bad : accepted < readImage n image .verdict → isImage n image ≡ false
-  unfolding readImage
-  read-bad =
+  pub given-bad : accepted < givenImage n image .verdict → isImage n image ≡ false
+  unfolding givenImage
+  given-bad =
       by-test (isImage n image) (λ good. rw (eq-eqb (length image) (n * recordLength) sized, good) (λ h. absurd (omega arith))) (λ bad _. bad)
 
-  pub read-good : readImage n image .verdict ≤ accepted
-      → (isImage n image ≡ true) × (readImage n image ≡ reading (tableOf n image) accepted)
-  unfolding readImage
-  read-good =
+  pub given-good : givenImage n image .verdict ≤ accepted
+      → (isImage n image ≡ true) × (givenImage n image ≡ reading (tableOf n image) accepted)
+  unfolding givenImage
+  given-good =
       by-test (isImage n image) (λ good. rw (eq-eqb (length image) (n * recordLength) sized, good) (λ _. (refl, refl)))
       (λ bad. rw (eq-eqb (length image) (n * recordLength) sized, bad) (λ h. absurd (omega arith)))
 

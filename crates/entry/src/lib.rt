@@ -7,7 +7,7 @@ use image::call::REQUEST;
 use image::call::put_answer;
 use image::call::request_from;
 use image::stored::IMAGE;
-use image::stored::read;
+use image::stored::given;
 use image::stored::store;
 use kernel::numbers::ACCEPTED;
 use kernel::numbers::BAD_ANSWER;
@@ -58,7 +58,7 @@ pub extern "C" fn kernel_step(
     if areas.len() != SLOTS * AREA {
         return refuse(BAD_AREAS, &mut *answer);
     }
-    let reading = read(&*image);
+    let reading = given(&*image);
     if ACCEPTED < reading.verdict {
         return refuse(BAD_TABLE, &mut *answer);
     }

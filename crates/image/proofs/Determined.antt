@@ -3,11 +3,15 @@
 use mathlib.Core.Path.{refl, _∙⁻¹_}
 use denote.Ref.{now}
 use Rattle.queue.specs.Determined.{Determines, DeterminesResult}
+use Rattle.image.proofs.stored.given.Reads as given
 use Rattle.image.proofs.stored.read.Reads as read
 use Rattle.image.proofs.stored.write.Reads as write
 use Rattle.image.proofs.stored.store.Reads as store
 use Rattle.image.proofs.call.request_from.Reads as request-from
 use Rattle.image.proofs.call.put_answer.Reads as put-answer
+
+given-determined : (κs : _) (a : _) → DeterminesResult (given.Post κs a)
+given-determined κs a r r′ s s′ p p′ = (p ∙⁻¹ p′, refl)
 
 read-determined : (κs : _) (a : _) → DeterminesResult (read.Post κs a)
 read-determined κs a r r′ s s′ p p′ = (p ∙⁻¹ p′, refl)

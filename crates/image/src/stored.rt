@@ -30,7 +30,7 @@ ghost use Rattle.queue.specs.Placed.{placedRow};
 ghost use Rattle.rules.specs.Fresh.{unusedTable};
 ghost use Rattle.rules.specs.Good.{readyKey, sendersKey};
 ghost use Rattle.image.specs.Record.{recordLength};
-ghost use Rattle.image.specs.Image.{waitersKey, reading, readImage, stored, writeVerdict, written};
+ghost use Rattle.image.specs.Image.{waitersKey, reading, givenImage, readImage, stored, writeVerdict, written};
 ghost use Rattle.image.specs.Exact.{decodedOf};
 
 // How long an image is.
@@ -230,9 +230,10 @@ fn refused(verdict: u8) -> Reading
     }
 }
 
-// The table of an image. Refused by 7 where its length is another, then by 2 where it is not the image of a good table.
-pub fn read(bytes: &[u8]) -> Reading
-    ensures { λ r. ⌜ r ≡ readImage places (now (bytes .entry)) ⌝ }
+// The table that the bytes give, with the verdict on them. Whoever goes on only where they are accepted needs no table
+// without tasks, and is spared making one.
+pub fn given(bytes: &[u8]) -> Reading
+    ensures { λ r. ⌜ r ≡ givenImage places (now (bytes .entry)) ⌝ }
 {
     if bytes.len() != IMAGE {
         return refused(BAD_IMAGE);
@@ -240,12 +241,24 @@ pub fn read(bytes: &[u8]) -> Reading
     let decoded = decode(bytes);
     let table = decoded.table;
     let checked = rules::check(table);
+    let mut verdict = BAD_TABLE;
     if checked.good & decoded.exact {
-        return Reading {
-            table,
-            active: checked.active,
-            verdict: ACCEPTED,
-        };
+        verdict = ACCEPTED;
     }
-    refused(BAD_TABLE)
+    Reading {
+        table,
+        active: checked.active,
+        verdict,
+    }
+}
+
+// The table of an image. Refused by 7 where its length is another, then by 2 where it is not the image of a good table.
+pub fn read(bytes: &[u8]) -> Reading
+    ensures { λ r. ⌜ r ≡ readImage places (now (bytes .entry)) ⌝ }
+{
+    let reading = given(bytes);
+    if reading.verdict == BAD_TABLE {
+        return refused(BAD_TABLE);
+    }
+    reading
 }

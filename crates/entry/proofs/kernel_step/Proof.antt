@@ -16,7 +16,7 @@ use Rattle.image.specs.Record.{recordLength}
 use Rattle.image.specs.Image.{tableOf, isImage, reading}
 use Rattle.image.specs.Call.{requestLength, requestFrom, answerLength}
 use Rattle.entry.specs.Entry.{unfit}
-use Rattle.entry.proofs.Calls.{wrong-answer, unfit-record, unfit-image, unfit-areas, unfit-table, fits, unfit-call, refused-call, accepted-call, read-bad, read-good, next-slots, decided-read}
+use Rattle.entry.proofs.Calls.{wrong-answer, unfit-record, unfit-image, unfit-areas, unfit-table, fits, unfit-call, refused-call, accepted-call, given-bad, given-good, next-slots, decided-read}
 use Rattle.entry.proofs.kernel_step.Statement.{statement}
 use Rattle.entry.proofs.kernel_step.Tie as tie
 
@@ -60,13 +60,13 @@ abbrev begun : tie.After-decide-at → tie.Start
 begun p = opened (fitting p .before .before .before .before)
 
 good : (p : tie.After-decide-at)
-    → (isImage places (image (begun p)) ≡ true) × (p .before .before .before .before .before .read .result ≡ reading (tableOf places (image (begun p))) accepted)
+    → (isImage places (image (begun p)) ≡ true) × (p .before .before .before .before .before .given .result ≡ reading (tableOf places (image (begun p))) accepted)
 good p =
     let met = p .before .before .before .before .before in
     let none = p .before .before .before .if5 .left in
-    let verdict = ap (λ (x : Reading). x .verdict) (met .read .ensures) in
-    let found = read-good places (image (begun p)) (sized (fitting p .before)) (rw verdict at none) in
-    (found .0, met .read .ensures ∙ found .1)
+    let verdict = ap (λ (x : Reading). x .verdict) (met .given .ensures) in
+    let found = given-good places (image (begun p)) (sized (fitting p .before)) (rw verdict at none) in
+    (found .0, met .given .ensures ∙ found .1)
 
 fit : (p : tie.After-decide-at) → unfit places (image (begun p)) (areas (begun p)) (request (begun p)) ≡ accepted
 fit p =
@@ -137,8 +137,8 @@ returns-4 c =
     (unfit-areas places (image start) (areas start) (request start) (answer start) (asked (passed .before)) (sized passed) (λ e. omega arith))
     (told .refuse3 .ensures)
 
-read-requires : tie.Need-read-requires
-read-requires c κs = search needs
+given-requires : tie.Need-given-requires
+given-requires c κs = search needs
 
 refuse-requires-4 : tie.Need-refuse-requires-4
 refuse-requires-4 c κs = search needs
@@ -156,7 +156,7 @@ returns-5 c =
     let met = here .before .before in
     let passed = met .before .before in
     let start = opened (passed .before .before .before .before) in
-    let bad = read-bad places (image start) (sized (passed .before)) (rw (ap (λ (x : Reading). x .verdict) (met .read .ensures)) at (here .if5 .taken)) in
+    let bad = given-bad places (image start) (sized (passed .before)) (rw (ap (λ (x : Reading). x .verdict) (met .given .ensures)) at (here .if5 .taken)) in
     unfit-call places (image start) (areas start) (request start) (answer start) (room (passed .before .before .before)) badTable (omega arith)
     (unfit-table places (image start) (areas start) (request start) (answer start) (asked (passed .before .before)) (sized (passed .before)) (lent passed) bad)
     (told .refuse4 .ensures)
@@ -240,7 +240,7 @@ kernel-step-spec =
     refuse-requires-3
     same-length-3
     returns-4
-    read-requires
+    given-requires
     refuse-requires-4
     same-length-4
     same-length-5
