@@ -1,0 +1,17 @@
+// The cases that the paper has run and compared, in one run: its file `stdin` has their requests, and `stdout` their lines.
+use kernel::table::AREA;
+use kernel::table::SLOTS;
+use libc::STDIN_FILENO;
+use libc::STDOUT_FILENO;
+use lines::fresh_block;
+use lines::show_block;
+
+fn main() {
+    let mut records = [0u8; 2048];
+    let mut areas = [0u8; SLOTS * AREA];
+    let mut out = [0u8; 8192];
+    let n = io::read_full(STDIN_FILENO, &mut records);
+    let block = show_block(fresh_block(16), &records[..n], &mut areas, &mut out);
+    let end = block.end;
+    io::write_all(STDOUT_FILENO, &out[..end]);
+}

@@ -1,0 +1,24 @@
+-- `main`: a fresh kernel of priority 16 is good.
+use native.Mathlib.Omega.{arith}
+use borrow.Author.Needs.{needs}
+use Rattle.queue.specs.Row.{places}
+use Rattle.rules.proofs.Good.{facts-good}
+use Rattle.rules.proofs.Fresh.{fresh-good}
+use Rattle.kernel_run.proofs.main.Statement.{statement}
+use Rattle.kernel_run.proofs.main.Tie as tie
+
+fresh-block-requires : tie.Need-fresh-block-requires
+fresh-block-requires c κs = search needs
+
+slice-aggregate-run : tie.Need-slice-aggregate-run
+slice-aggregate-run c = search needs
+
+run-requires : tie.Need-run-requires
+run-requires c κs =
+    rw (c .before .fresh-block .ensures) (facts-good places _ (fresh-good places 16 (omega arith) (omega arith)))
+
+returns : tie.Need-returns
+returns c = search needs
+
+pub main-spec : {M : Type 1} → statement M
+main-spec = tie.close (tie.spec fresh-block-requires slice-aggregate-run run-requires returns)

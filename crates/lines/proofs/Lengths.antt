@@ -1,0 +1,83 @@
+-- How long a line can be, and that a text which fits is there whole.
+use Prim.Native.Nat.{ℕ, zero, suc, _+_, _-_, _/_, _%_, _^_, _≤_, _<_}
+use mathlib.Core.Path.{_≡_, sym}
+use mathlib.Core.List.{List, _++_}
+use native.Mathlib.Omega.{arith, pow-step}
+use native.Mathlib.Decide.{decLt}
+use lib.ListN.{length, take, drop, length-append}
+use lib.Seq.{sets-eq, take-at, length-take-le}
+use lib.Dec.{eqb}
+use borrow.Author.Tests.{lt-ltb, le-ltb, eq-eqb, ne-eqb}
+use Rattle.kernel.specs.declared.table.Outcome.the-variants.{Value, Fault}
+use Rattle.kernel.specs.declared.table.Answer.{Answer}
+use Rattle.kernel.specs.Table.{firstNegative}
+use Rattle.kernel.specs.Result.{negated}
+use Rattle.lines.specs.Text.{Appended, digits, decimal, signed}
+use Rattle.kernel.proofs.Tests.{chosen}
+use Rattle.image.specs.Call.{requestLength}
+use Rattle.lines.specs.Line.{verdictText, outcomeText, answerText, lineOf, longest, endLine}
+use Rattle.lines.specs.Block.{endOf}
+
+digits-size : (k m n : ℕ) → n < 10 ^ suc m → length (digits k n) ≤ suc m
+unfolding digits
+digits-size zero m n h = omega arith
+digits-size (suc k) zero n h = rw (lt-ltb n 10 (omega arith)) (omega arith)
+digits-size (suc k) (suc m) n h = elim (decLt n 10) [
+  | yes l ↦ rw (lt-ltb n 10 l) (omega arith)
+  | no ge ↦
+      let rest : n / 10 < 10 ^ suc m = omega (arith, pow-step 10 (suc m)) in
+      rw (le-ltb n 10 (omega arith), length-append) (omega (arith, digits-size k m (n / 10) rest))
+]
+
+-- a number below 10^(m + 1) has at most m + 1 digits
+pub decimal-size : (m n : ℕ) → n < 10 ^ suc m → length (decimal n) ≤ suc m
+decimal-size m n h = digits-size n m n h
+
+signed-size : (w : ℕ) → w < 2 ^ 32 → length (signed w) ≤ 11
+unfolding signed
+signed-size w h = elim (decLt w firstNegative) [
+  | yes l ↦ rw (lt-ltb w firstNegative l) (omega (arith, decimal-size 9 w (omega arith)))
+  | no ge ↦ rw (le-ltb w firstNegative (omega arith)) (omega (arith, decimal-size 9 (2 ^ 32 - w) (omega arith)))
+]
+
+verdict-size : (v : ℕ) → v < 256 → length (verdictText v) ≤ 4
+unfolding verdictText
+verdict-size v h = elim (decLt 0 v) [
+  | yes l ↦ rw (ne-eqb v 0 (λ e. omega arith)) (omega (arith, decimal-size 2 v (omega arith)))
+  | no ge ↦ rw (eq-eqb v 0 (omega arith)) (omega arith)
+]
+
+pub value-size : (from v : ℕ) → from < 256 → v < 2 ^ 32 → length (outcomeText (Value from v)) ≤ 17
+unfolding outcomeText
+value-size from v h l =
+    simp length-append (omega (arith, signed-size v l, decimal-size 2 from (omega arith)))
+
+pub fault-size : (f : ℕ) → length (outcomeText (Fault f)) ≤ 17
+unfolding outcomeText
+fault-size f = omega (arith, signed-size (negated f) (omega arith))
+
+pub answer-size : (a : Answer) → a .verdict < 256 → a .next < 256 → length (outcomeText (a .outcome)) ≤ 17 → length (answerText a) ≤ 26
+unfolding answerText
+answer-size a h l g =
+    simp length-append (omega (arith, verdict-size (a .verdict) h, decimal-size 2 (a .next) (omega arith)))
+
+pub line-size : (step kind : ℕ) (a : Answer) → step < 2 ^ 64 → kind < 2 ^ 32 → length (answerText a) ≤ 26 → length (lineOf step kind a) ≤ longest
+unfolding lineOf
+line-size step kind a h l g =
+    simp length-append (omega (arith, decimal-size 19 step (omega arith), signed-size kind l))
+
+pub end-size : (count : ℕ) → length (endOf count) ≤ longest
+unfolding endOf endLine verdictText digits
+end-size count = chosen (λ (x : List ℕ). length x ≤ longest) (eqb (count % requestLength) 0) (λ e. omega arith) (λ e. omega arith)
+
+behind : {before after text : List ℕ} {at end : ℕ} → Appended before at text after end → at + length text ≤ length before
+    → take end after ≡ take at before ++ text
+behind {before} {after} {text} {at} {end} p fits =
+    let last : end ≡ at + length text = omega (arith, p .ended) in
+    let size : length (take at before ++ text) ≡ end = rw (length-append, length-take-le at before (omega arith)) (sym last) in
+    rw (p .stored, sets-eq text before at fits) (take-at (take at before ++ text) (drop (at + length text) before) end size)
+
+-- a text that fits an empty buffer is not cut
+pub whole : {before after text : List ℕ} {at end : ℕ} → Appended before at text after end → at ≡ 0 → length text ≤ length before
+    → take end after ≡ text
+whole {before} {after} {text} {at} {end} p none fits = rw none at (behind p (omega arith))

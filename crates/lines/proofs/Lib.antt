@@ -1,0 +1,4 @@
+mod Joined
+mod Onward
+pub mod Lengths
+mod Determined

@@ -1,0 +1,111 @@
+-- `block::run_block`. The loop's invariant: the first i records have been stepped, and their lines are short.
+use Prim.Native.Nat.{ℕ, _+_, _-_, _*_, _/_, _≤_}
+use mathlib.Core.Path.{_≡_, refl, ap}
+use mathlib.Core.List.{List}
+use mathlib.Core.Bool.{true}
+use native.Mathlib.Omega.{arith}
+use lib.ListN.{length, take, drop}
+use borrow.Author.Needs.{needs}
+use Rattle.rules.specs.Good.{goodTable}
+use Rattle.image.specs.Call.{requestLength}
+use Rattle.lines.specs.Line.{longest}
+use Rattle.lines.specs.Block.{Ran, begun, ran, requestsIn}
+use Rattle.lines.proofs.Onward.{fewer, run-more, size-more, run-none}
+use Rattle.lines.proofs.block.run_block.Statement.{statement}
+use Rattle.lines.proofs.block.run_block.Tie as tie
+
+abbrev Inv-loop : tie.InvT-loop
+Inv-loop records areas₀ out₀ count b₀ i₀ areas out b i =
+    (i ≤ count) × (count ≡ length records / requestLength) × (length areas ≡ length areas₀) × (length out ≡ length out₀)
+    × Ran (ran (begun b₀ areas₀) (requestsIn records i)) b₀ out₀ b areas out × (goodTable (b₀ .table) ≡ true → goodTable (b .table) ≡ true)
+    × (length (ran (begun b₀ areas₀) (requestsIn records i) .text) ≤ longest * i)
+
+abbrev μ-loop : tie.MeasureT-loop
+μ-loop records areas₀ out₀ count b₀ i₀ areas out b i = count - i
+
+loop-holds : tie.Need-loop-holds Inv-loop μ-loop
+unfolding requestsIn ran
+loop-holds c =
+    let asked = c .before .before .before .args in
+    (omega arith, refl, refl, refl, run-none (asked .first) (asked .records .now) (asked .areas .now) (asked .out .now), λ good. good, omega arith)
+
+mul-at : tie.Need-mul-at Inv-loop μ-loop
+mul-at c = search needs
+
+add-next : tie.Need-add-next Inv-loop μ-loop
+add-next c = search needs
+
+sub-step-one : tie.Need-sub-step-one Inv-loop μ-loop
+sub-step-one c = search needs
+
+part-step-one-start : tie.Need-part-step-one-start Inv-loop μ-loop
+part-step-one-start c = search needs
+
+part-step-one-end : tie.Need-part-step-one-end Inv-loop μ-loop
+part-step-one-end c = search needs
+
+step-one-requires : tie.Need-step-one-requires Inv-loop μ-loop
+step-one-requires c κs = search needs
+
+add-i : tie.Need-add-i Inv-loop μ-loop
+add-i c = search needs
+
+loop-less : tie.Need-loop-less Inv-loop μ-loop
+loop-less c =
+    let test = c .before .before .before .before .before .before .before .before in
+    fewer (test .before .loop .i) _ (test .loop-test .taken)
+
+loop-again : tie.Need-loop-again Inv-loop μ-loop
+loop-again c =
+    let called = c .before .before .before .before in
+    let loop = called .before .before .before .before .before in
+    let start = loop .before .before .before .before in
+    let areas : List ℕ = start .args .areas .now in
+    let records : List ℕ = start .args .records .now in
+    let inv = loop .loop .inv in
+    let i : ℕ = loop .loop .i in
+    let size : i * 24 + 24 - i * 24 ≡ 24 = omega arith in
+    let same = ap (λ (k : ℕ). take k (drop (i * 24) records)) size in
+    let made = called .step-one .ensures in (
+      omega arith,
+      inv .1,
+      search needs,
+      search needs,
+      run-more (begun (start .args .first) areas) records i same (inv .4) (made .0),
+      λ good. made .1 .0 (inv .5 good),
+      omega (arith, inv .6, size-more (begun (start .args .first) areas) records i same (inv .4) (made .1 .1)),
+    )
+
+same-length : tie.Need-same-length Inv-loop μ-loop
+same-length c = search needs
+
+same-length-2 : tie.Need-same-length-2 Inv-loop μ-loop
+same-length-2 c = search needs
+
+returns : tie.Need-returns Inv-loop μ-loop
+returns c =
+    let inv = c .before .loop .inv in
+    let start = c .before .before .before .before .before in
+    let records : List ℕ = start .args .records .now in
+    let end : c .before .loop .i ≡ length records / requestLength = omega arith in
+    (rw end at (inv .4), (inv .5, rw end at (inv .6)))
+
+pub run-block-spec : {M : Type 1} → statement M
+run-block-spec =
+    tie.close
+    (tie.spec
+    Inv-loop
+    μ-loop
+    loop-holds
+    mul-at
+    add-next
+    sub-step-one
+    part-step-one-start
+    part-step-one-end
+    step-one-requires
+    add-i
+    loop-less
+    loop-again
+    same-length
+    same-length-2
+    returns)

@@ -1,0 +1,54 @@
+-- `text::put_signed`: a word below 2^31 as it is, any other by a minus and what it lacks of 2^32.
+use Prim.Native.Nat.{ℕ}
+use borrow.Author.Tests.{lt-ltb, le-ltb}
+use native.Mathlib.Omega.{arith}
+use Rattle.kernel.specs.Table.{firstNegative}
+use borrow.Author.Needs.{needs}
+use Rattle.lines.proofs.Joined.{then}
+use Rattle.lines.specs.Text.{signed}
+use Rattle.lines.proofs.text.put_signed.Statement.{statement}
+use Rattle.lines.proofs.text.put_signed.Tie as tie
+
+put-decimal-requires : tie.Need-put-decimal-requires
+put-decimal-requires c κs = search needs
+
+same-length : tie.Need-same-length
+same-length c = search needs
+
+returns : tie.Need-returns
+unfolding signed
+returns c =
+    let w : ℕ = c .before .before .before .before .before .before .args .w in
+    rw (lt-ltb w firstNegative (omega arith)) (c .before .before .put-decimal .ensures)
+
+put-requires : tie.Need-put-requires
+put-requires c κs = search needs
+
+sub-put-decimal : tie.Need-sub-put-decimal
+sub-put-decimal c = search needs
+
+put-decimal-requires-2 : tie.Need-put-decimal-requires-2
+put-decimal-requires-2 c κs = search needs
+
+same-length-2 : tie.Need-same-length-2
+same-length-2 c = search needs
+
+returns-2 : tie.Need-returns-2
+unfolding signed
+returns-2 c =
+    let b = c .before .before in
+    let a = b .before .before .before .before in
+    rw (le-ltb (a .before .before .before .before .args .w) firstNegative (omega arith)) (then (a .put .ensures) (b .put-decimal2 .ensures))
+
+pub put-signed-spec : {M : Type 1} → statement M
+put-signed-spec =
+    tie.close
+    (tie.spec
+    put-decimal-requires
+    same-length
+    returns
+    put-requires
+    sub-put-decimal
+    put-decimal-requires-2
+    same-length-2
+    returns-2)

@@ -1,0 +1,68 @@
+-- What a step shows as: one line of text.
+use Prim.Native.Nat.{ℕ}
+use mathlib.Core.List.{List, [], _∷_, _++_}
+use lib.Dec.{eqb}
+use Rattle.queue.specs.Choose.{choose}
+use Rattle.kernel.specs.declared.table.Outcome.{Outcome}
+use Rattle.kernel.specs.declared.table.Answer.{Answer}
+use Rattle.kernel.specs.Result.{resultKind, resultWord, resultFrom}
+use Rattle.kernel.specs.Numbers.{accepted, badRecord}
+use Rattle.lines.specs.Text.{decimal, signed}
+
+-- The characters of a line, by their ASCII codes.
+
+abbrev pub newline : ℕ
+newline = 10
+
+abbrev pub space : ℕ
+space = 32
+
+abbrev pub minus : ℕ
+minus = 45
+
+abbrev pub letterR : ℕ
+letterR = 82
+
+abbrev pub letterE : ℕ
+letterE = 101
+
+abbrev pub letterV : ℕ
+letterV = 118
+
+-- "ok"
+abbrev pub ok : List ℕ
+ok = 111 ∷ 107 ∷ []
+
+-- ok, or R and the refusal
+unfoldable pub verdictText : ℕ → List ℕ
+verdictText v = choose (eqb v accepted) ok (letterR ∷ decimal v)
+
+-- a minus for nothing; v, the value and from; e and the fault, a negative word
+unfoldable pub outcomeText : Outcome → List ℕ
+outcomeText o =
+    choose (eqb (resultKind o) 0) (minus ∷ [])
+    (choose (eqb (resultKind o) 1) (letterV ∷ space ∷ signed (resultWord o) ++ space ∷ decimal (resultFrom o))
+    (letterE ∷ space ∷ signed (resultWord o)))
+
+-- the verdict, the next tid and that task's result
+unfoldable pub answerText : Answer → List ℕ
+answerText a =
+    verdictText (a .verdict)
+    ++ space ∷ decimal (a .next)
+    ++ space ∷ outcomeText (a .outcome)
+
+-- no line is longer than this
+abbrev pub longest : ℕ
+longest = 60
+
+-- the step's number, its kind, and what it answered
+unfoldable pub lineOf : ℕ → ℕ → Answer → List ℕ
+lineOf step kind a =
+    decimal step
+    ++ space ∷ signed kind
+    ++ space ∷ answerText a
+    ++ newline ∷ []
+
+-- "end" and refusal 5: the last record is incomplete
+unfoldable pub endLine : List ℕ
+endLine = letterE ∷ 110 ∷ 100 ∷ space ∷ verdictText badRecord ++ newline ∷ []

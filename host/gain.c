@@ -1,0 +1,92 @@
+/* A host with two tasks: a client, and a gain task that answers what the gain is. The gain task exits after one reading. What the
+ * client is told next is a fault and not a number, although the old number still lies in its memory. */
+#include <stdio.h>
+#include <stdlib.h>
+#include "bredonych.h"
+
+enum { CLIENT = 1, GAIN = 2, ASKED = 0, READING = 8, TRUE_GAIN = 42 };
+
+static uint8_t image[BREDONYCH_IMAGE], areas[BREDONYCH_AREAS];
+
+/* What a task is told as it becomes active. */
+struct told {
+    uint32_t next, kind;
+    int32_t word;
+    uint32_t from;
+};
+
+static uint32_t word_at(const uint8_t *b)
+{
+    return b[0] | (uint32_t)b[1] << 8 | (uint32_t)b[2] << 16 | (uint32_t)b[3] << 24;
+}
+
+/* One step of the active task: a kind and its arguments. */
+static struct told ask(int32_t kind, int32_t a, int32_t b, int32_t c, int32_t d, int32_t e)
+{
+    const int32_t words[6] = {kind, a, b, c, d, e};
+    uint8_t record[BREDONYCH_REQUEST], answer[BREDONYCH_ANSWER];
+    for (int i = 0; i < BREDONYCH_REQUEST; i++)
+        record[i] = (uint8_t)((uint32_t)words[i / 4] >> (8 * (i % 4)) & 255u);
+    uint32_t verdict = kernel_step(image, sizeof image, areas, sizeof areas, record, sizeof record, answer, sizeof answer);
+    if (verdict != BREDONYCH_ACCEPTED) {
+        printf("refused by %u\n", (unsigned)verdict);
+        exit(1);
+    }
+    return (struct told){word_at(answer + 4), word_at(answer + 8), (int32_t)word_at(answer + 12), word_at(answer + 16)};
+}
+
+/* The client: makes the gain task, asks it twice, and says what it learnt. */
+static struct told client(struct told told)
+{
+    static int stage;
+    switch (stage++) {
+    case 0:
+        printf("client: makes the gain task, of a higher priority\n");
+        return ask(BREDONYCH_CREATE, 8, 0, 0, 0, 0);
+    case 1:
+        printf("client: the gain task is task %d; asks it for the gain\n", (int)told.word);
+        return ask(BREDONYCH_SEND, GAIN, ASKED, 1, READING, 1);
+    case 2:
+        printf("client: a reply of %d byte: the gain is %d\n", (int)told.word, areas[READING]);
+        printf("client: asks again\n");
+        return ask(BREDONYCH_SEND, GAIN, ASKED, 1, READING, 1);
+    default:
+        if (told.kind == BREDONYCH_FAULT)
+            printf("client: fault %d, no such task: there is no reading, though byte %d still holds the old %d\n", (int)told.word,
+                   READING, areas[READING]);
+        else
+            printf("client: was told %d, which nobody measured\n", (int)told.word);
+        exit(told.kind == BREDONYCH_FAULT ? 0 : 1);
+    }
+}
+
+/* The gain task: answers one question and is gone. */
+static struct told gain(struct told told)
+{
+    static int stage;
+    switch (stage++) {
+    case 0:
+        printf("gain task: waits for a question\n");
+        return ask(BREDONYCH_RECEIVE, 0, 4, 0, 0, 0);
+    case 1:
+        printf("gain task: a question of %d byte from task %u; measures %d\n", (int)told.word, (unsigned)told.from, TRUE_GAIN);
+        return ask(BREDONYCH_OWN_WRITE, 4, TRUE_GAIN, 0, 0, 0);
+    case 2:
+        printf("gain task: replies\n");
+        return ask(BREDONYCH_REPLY, CLIENT, 4, 1, 0, 0);
+    default:
+        printf("gain task: %d byte was copied; exits\n", (int)told.word);
+        return ask(BREDONYCH_EXIT, 0, 0, 0, 0, 0);
+    }
+}
+
+int main(void)
+{
+    if (kernel_start(16, image, sizeof image) != BREDONYCH_ACCEPTED)
+        return 1;
+    printf("a kernel starts: task 1 is the client\n");
+    struct told told = {CLIENT, BREDONYCH_NOTHING, 0, 0};
+    while (told.next != 0)
+        told = told.next == GAIN ? gain(told) : client(told);
+    return 1;
+}

@@ -1,0 +1,99 @@
+/* The kernel step for C and C++ hosts. Link target/staticlib/libentry.a (rt staticlib entry).
+ *
+ * A kernel is two buffers that the host keeps: the image, which is the task table as stored records, and the areas, 256
+ * bytes of memory for each task, that of task 1 first. The host lends them for a call. The functions keep nothing between
+ * calls, call nothing, and allocate nothing, so a host may have as many kernels as it has buffers. It may stop, store the
+ * buffers, and go on from them later.
+ *
+ * The buffers of one call must not overlap, and nothing else may read or write them until it returns. They need no alignment.
+ * A buffer of length 0 may be null. All numbers are little-endian. */
+#ifndef BREDONYCH_H
+#define BREDONYCH_H
+
+#include <stdint.h>
+
+#ifdef __cplusplus
+extern "C" {
+#endif
+
+/* Lengths in bytes, and numbers of things. */
+enum bredonych_size {
+    BREDONYCH_IMAGE = 640,    /* 32 records of 20 bytes */
+    BREDONYCH_AREAS = 8192,   /* 32 areas */
+    BREDONYCH_AREA = 256,     /* the bytes that a task owns */
+    BREDONYCH_REQUEST = 24,   /* a kind and five arguments, four bytes each, signed */
+    BREDONYCH_ANSWER = 20,    /* verdict, next task, result kind, value or fault, from: four bytes each */
+    BREDONYCH_TASKS = 32,     /* task ids are 1 to 32; 0 is no task */
+    BREDONYCH_PRIORITIES = 32, /* 0 is the highest, 31 the lowest */
+    BREDONYCH_EVENTS = 64     /* 0 to 63 */
+};
+
+/* What a request asks. The caller is the active task, except for an event, which comes from the hardware.
+ * A buffer is an offset and a length within the task's own area. */
+enum bredonych_kind {
+    BREDONYCH_CREATE = 1,        /* priority: make a task; the value is its id */
+    BREDONYCH_MY_TID = 2,        /* the value is the caller's id */
+    BREDONYCH_MY_PARENT_TID = 3, /* the value is its parent's id, 0 for task 1 */
+    BREDONYCH_YIELD = 4,         /* let others run; the value is 0 */
+    BREDONYCH_EXIT = 5,          /* the caller is no more */
+    BREDONYCH_SEND = 6,          /* task, message offset and length, reply offset and length: the value is the reply's full length */
+    BREDONYCH_RECEIVE = 7,       /* offset, length: the value is the message's full length, from its sender */
+    BREDONYCH_REPLY = 8,         /* task, offset, length: the value is how many bytes were copied */
+    BREDONYCH_AWAIT_EVENT = 9,   /* event: wait for it; the value is its data */
+    BREDONYCH_EVENT = 10,        /* event, data: it happened; also when no task is active */
+    BREDONYCH_OWN_WRITE = 11     /* offset, value: one byte of the active task's own area; nobody is chosen anew */
+};
+
+/* The verdict of a call. Refused, the image and the areas are as before. */
+enum bredonych_verdict {
+    BREDONYCH_ACCEPTED = 0,
+    BREDONYCH_BAD_AREAS = 1,    /* the areas are not 8,192 bytes */
+    BREDONYCH_BAD_TABLE = 2,    /* the image breaks a rule of a table */
+    BREDONYCH_BAD_KIND = 3,     /* no such kind of request */
+    BREDONYCH_NONE_ACTIVE = 4,  /* no task is active, and this is no event */
+    BREDONYCH_BAD_RECORD = 5,   /* the request is not 24 bytes */
+    BREDONYCH_BAD_PRIORITY = 6, /* kernel_start: the priority is outside 0 to 31 */
+    BREDONYCH_BAD_IMAGE = 7,    /* the image is not 640 bytes */
+    BREDONYCH_BAD_EVENT = 8,    /* the event that happened is outside 0 to 63 */
+    BREDONYCH_BAD_WRITE = 9,    /* own write: offset or value outside 0 to 255 */
+    BREDONYCH_BAD_ANSWER = 10   /* the answer is not 20 bytes; nothing is written to it */
+};
+
+/* What the next task is told, the third word of an answer. */
+enum bredonych_result {
+    BREDONYCH_NOTHING = 0,
+    BREDONYCH_VALUE = 1, /* the fourth word is the value, at least 0; the fifth is the sender after a Receive, else 0 */
+    BREDONYCH_FAULT = 2  /* the fourth word is the fault: */
+};
+
+/* The faults of each kind of request, where more than one applies the first named. */
+enum bredonych_fault {
+    BREDONYCH_CREATE_PRIORITY = -1,  /* outside 0 to 31 */
+    BREDONYCH_CREATE_FULL = -2,      /* all 32 tasks have been made */
+    BREDONYCH_SEND_NO_TASK = -1,     /* never made, or it has exited */
+    BREDONYCH_SEND_ITSELF = -2,
+    BREDONYCH_SEND_BUFFER = -3,      /* either buffer is not within the area */
+    BREDONYCH_RECEIVE_BUFFER = -3,
+    BREDONYCH_REPLY_NO_TASK = -1,
+    BREDONYCH_REPLY_NOT_AWAITED = -2, /* that task waits for no reply */
+    BREDONYCH_REPLY_BUFFER = -3,
+    BREDONYCH_AWAIT_EVENT_NONE = -1, /* outside 0 to 63 */
+    BREDONYCH_AWAIT_EVENT_TAKEN = -3, /* another task waits for it */
+    BREDONYCH_EVENT_DATA = -2        /* told to the waiting task: the data was negative */
+};
+
+/* Starts a kernel: writes the image in which task 1, of this priority, is active, and answers 0. An image of another length
+ * is refused by 7 and not written; a priority outside 0 to 31 is refused by 6, and the image is then all zero: every slot is
+ * unused, and each step of it is refused by 2. The areas are the host's to clear. */
+uint32_t kernel_start(uint32_t priority, uint8_t *image, uint64_t image_length);
+
+/* One step: does what the record asks and answers the verdict, which is also the answer's first word. The image and the areas
+ * are changed in place; refused, they are left as they are, and the answer says who is active (refusals 3, 4, 8 and 9) or 0. */
+uint32_t kernel_step(uint8_t *image, uint64_t image_length, uint8_t *areas, uint64_t areas_length, const uint8_t *record,
+                     uint64_t record_length, uint8_t *answer, uint64_t answer_length);
+
+#ifdef __cplusplus
+}
+#endif
+
+#endif
