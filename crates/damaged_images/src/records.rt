@@ -1,0 +1,79 @@
+// Each byte of the used records, and of the first unused one, damaged alone.
+use crate::damage::POSITIONS;
+use crate::damage::RECORD;
+use crate::damage::breaks;
+use crate::damage::good_values;
+use crate::damage::wrong;
+use image::stored::IMAGE;
+use libc::STDOUT_FILENO;
+use queue::slot;
+use queue::wide;
+use std::num::wrapping_add_u64;
+
+// The records that are damaged: twelve tasks, and the first unused slot.
+const DAMAGED: u8 = 13;
+
+fn byte_at(image: [u8; IMAGE], at: usize) -> u8 {
+    if at < IMAGE { image[at] } else { 0 }
+}
+
+// Where a byte of the record of a tid stands.
+fn place_of(tid: u8, at: u8) -> usize {
+    slot(tid) * RECORD + wide(at)
+}
+
+// Whether the byte that a record cannot hold at a place is refused there.
+fn is_broken(image: [u8; IMAGE], tid: u8, at: u8) -> bool {
+    let place = place_of(tid, at);
+    let state = byte_at(image, place_of(tid, 0));
+    let old = byte_at(image, place);
+    breaks(image, place, wrong(tid, state, at, old))
+}
+
+// How many places of a record are refused.
+fn broken_places(image: [u8; IMAGE], tid: u8) -> u64 {
+    let mut broken = 0u64;
+    let mut at = 0u8;
+    while at < POSITIONS {
+        if is_broken(image, tid, at) {
+            broken = wrapping_add_u64(broken, 1);
+        }
+        at += 1;
+    }
+    broken
+}
+
+// A place that is not refused, with how many of the 256 bytes are good there.
+fn write_good(image: [u8; IMAGE], tid: u8, at: u8) {
+    if !is_broken(image, tid, at) {
+        io::write_all(STDOUT_FILENO, b"; at ");
+        io::print_decimal(STDOUT_FILENO, at as u64);
+        io::write_all(STDOUT_FILENO, b", a low byte of a value, ");
+        io::print_decimal(STDOUT_FILENO, good_values(image, place_of(tid, at)));
+        io::write_all(STDOUT_FILENO, b" of 256 are good");
+    }
+}
+
+fn write_record(image: [u8; IMAGE], tid: u8) {
+    io::write_all(STDOUT_FILENO, b"tid ");
+    io::print_decimal(STDOUT_FILENO, tid as u64);
+    io::write_all(STDOUT_FILENO, b" state ");
+    io::print_decimal(STDOUT_FILENO, byte_at(image, place_of(tid, 0)) as u64);
+    io::write_all(STDOUT_FILENO, b": ");
+    io::print_decimal(STDOUT_FILENO, broken_places(image, tid));
+    io::write_all(STDOUT_FILENO, b" of 20 refused");
+    let mut at = 0u8;
+    while at < POSITIONS {
+        write_good(image, tid, at);
+        at += 1;
+    }
+    io::write_all(STDOUT_FILENO, b"\n");
+}
+
+pub(crate) fn write_records(image: [u8; IMAGE]) {
+    let mut tid = 1;
+    while tid <= DAMAGED {
+        write_record(image, tid);
+        tid += 1;
+    }
+}

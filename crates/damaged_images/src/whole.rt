@@ -1,0 +1,86 @@
+// Images of other lengths and of other bytes, and the unbroken one.
+use entry::kernel_step;
+use image::call::ANSWER;
+use image::call::REQUEST;
+use image::stored::IMAGE;
+use image::stored::read;
+use kernel::numbers::EVENT;
+use kernel::table::AREA;
+use kernel::table::SLOTS;
+use libc::STDOUT_FILENO;
+
+const SEED: u32 = 2026;
+
+// What a step says of an image: an event that nobody awaits is refused for nothing else.
+fn step_verdict(image: &mut [u8]) -> u32 {
+    let mut areas = [0u8; SLOTS * AREA];
+    let mut answer = [0u8; ANSWER];
+    let mut request = [0u8; REQUEST];
+    request[0] = EVENT as u8;
+    request[4] = 62;
+    kernel_step(&mut *image, &mut areas, &request, &mut answer)
+}
+
+// What reading says of an image, and then what a step does.
+fn write_whole(name: &[u8], image: &mut [u8]) {
+    let reading = read(&*image);
+    io::write_all(STDOUT_FILENO, name);
+    io::write_all(STDOUT_FILENO, b": reading ");
+    io::print_decimal(STDOUT_FILENO, reading.verdict as u64);
+    io::write_all(STDOUT_FILENO, b", a step ");
+    io::print_decimal(STDOUT_FILENO, step_verdict(&mut *image) as u64);
+    io::write_all(STDOUT_FILENO, b"\n");
+}
+
+// The same of the first bytes of an image.
+fn write_first(name: &[u8], image: &mut [u8], len: usize) {
+    if len <= image.len() {
+        write_whole(name, &mut image[..len]);
+    }
+}
+
+// The image with a byte more.
+fn longer(image: [u8; IMAGE]) -> [u8; IMAGE + 1] {
+    let mut long = [0u8; IMAGE + 1];
+    let mut at = 0;
+    while at < IMAGE {
+        long[at] = image[at];
+        at += 1;
+    }
+    long
+}
+
+// The next of 65,537 numbers, all of which are met but one.
+fn drawn(x: u32) -> u32 {
+    ((x % 65537) * 75 + 74) % 65537
+}
+
+fn random() -> [u8; IMAGE] {
+    let mut bytes = [0u8; IMAGE];
+    let mut x = SEED;
+    let mut at = 0;
+    while at < IMAGE {
+        x = drawn(x);
+        bytes[at] = (x % 256) as u8;
+        at += 1;
+    }
+    bytes
+}
+
+fn write_cut(name: &[u8], long: [u8; IMAGE + 1], len: usize) {
+    let mut image = long;
+    write_first(name, &mut image, len);
+}
+
+pub(crate) fn write_wholes(image: [u8; IMAGE]) {
+    let long = longer(image);
+    let mut zeros = [0u8; IMAGE];
+    let mut noise = random();
+    let mut unbroken = image;
+    write_cut(b"no byte", long, 0);
+    write_cut(b"639 bytes", long, IMAGE - 1);
+    write_cut(b"641 bytes", long, IMAGE + 1);
+    write_whole(b"all zero", &mut zeros);
+    write_whole(b"random bytes", &mut noise);
+    write_whole(b"the unbroken image", &mut unbroken);
+}
