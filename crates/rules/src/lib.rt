@@ -5,16 +5,18 @@ ghost use mathlib.Core.Path.{_≡_};
 ghost use Rattle.queue.specs.Row.{places};
 ghost use Rattle.rules.specs.Check.{checked};
 ghost use Rattle.rules.specs.Fresh.{unusedTable, started};
-use crate::slots::good_slot;
-use crate::slots::is_named;
+use crate::slots::good_used;
+use crate::slots::idle;
+use crate::slots::none_left;
 use crate::slots::ready_key;
+use crate::slots::rest_unused;
 use crate::slots::senders_key;
-use crate::slots::waiters_wait;
 use kernel::numbers::ACCEPTED;
 use kernel::numbers::BAD_PRIORITY;
-use kernel::parts::ACTIVE;
-use kernel::parts::SEND_BLOCKED;
+use kernel::parts::EVENT_BLOCKED;
+use kernel::parts::awaited;
 use kernel::parts::state_code;
+use kernel::search::first_active;
 use kernel::search::used_slots;
 use kernel::table::EVENTS;
 use kernel::table::Outcome;
@@ -25,6 +27,7 @@ use kernel::table::Table;
 use kernel::table::Task;
 use queue::NO_ROW;
 use queue::Queue;
+use queue::wide;
 
 pub struct Checked {
     pub good: bool,
@@ -32,51 +35,43 @@ pub struct Checked {
 }
 
 // Whether the table keeps the rules, and which slot is active: `SLOTS` where none is.
-// One walk over the tasks asks what is asked of each, and collects the rows in which they are to stand.
+// One walk over the used slots asks what is asked of each, and collects the rows in which they are to stand. A task that its event
+// names is struck from the waiters, so that only who is named and does not wait is left.
 pub fn check(table: Table) -> Checked
     ensures { λ r. ⌜ r ≡ checked table ⌝ }
 {
     let tasks = table.tasks;
-    let waiters = table.waiters;
+    let senders_rows = table.senders;
     let used = used_slots(tasks);
-    let mut active = SLOTS;
+    let active = first_active(tasks);
+    let mut waiters = table.waiters;
     let mut good = true;
-    let mut alone = true;
-    let mut quiet = true;
-    let mut named = true;
     let mut ready = [NO_ROW; SLOTS];
     let mut senders = [NO_ROW; SLOTS];
     let mut s = 0;
-    while s < SLOTS {
-        let task = table.tasks[s];
+    while s < used {
+        let task = tasks[s];
         let state = task.state;
-        let code = state_code(state);
-        good &= good_slot(task, used, s);
-        alone &= (code != ACTIVE) | (active == SLOTS);
-        if code == ACTIVE {
-            if active == SLOTS {
-                active = s;
-            }
-        }
-        quiet &= (code != SEND_BLOCKED) | (table.senders[s].len == 0);
-        named &= is_named(state, waiters, s);
+        good &= good_used(task, used, s, active, senders_rows[s].len);
         ready[s] = ready_key(task);
         senders[s] = senders_key(task);
+        if state_code(state) == EVENT_BLOCKED {
+            let event = wide(awaited(state));
+            if event < EVENTS {
+                good &= wide(waiters[event]) == s + 1;
+                waiters[event] = 0;
+            }
+        }
         s += 1;
     }
     let ready_rows = table.ready;
-    let senders_rows = table.senders;
-    let idle = if active < SLOTS {
-        true
-    } else {
-        queue::first_filled(ready_rows) == SLOTS
-    };
     let good = (1 <= used)
+        & rest_unused(tasks, used)
         & good
-        & (alone & idle)
+        & idle(ready_rows, active)
         & queue::rows_kept(ready_rows, ready)
-        & (queue::rows_kept(senders_rows, senders) & quiet)
-        & (waiters_wait(tasks, waiters) & named);
+        & queue::rows_kept(senders_rows, senders)
+        & none_left(waiters);
     Checked { good, active }
 }
 
