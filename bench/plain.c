@@ -30,7 +30,7 @@ struct task {
 };
 
 static struct task tasks[PLAIN_TASKS], *active, *waiter[PLAIN_EVENTS];
-static struct queue ready[32];
+static struct queue ready[PLAIN_PRIORITIES];
 static uint32_t filled; /* a bit for each ready queue that is not empty */
 static uint8_t used;
 
@@ -171,7 +171,7 @@ static void reply(struct task *me, const int32_t *arg, uint8_t *areas)
 
 static void create(struct task *me, int32_t priority)
 {
-    if (priority < 0 || priority > 31) {
+    if (priority < 0 || priority >= PLAIN_PRIORITIES) {
         wake(me, FAULT, -1, 0);
     } else if (used == PLAIN_TASKS) {
         wake(me, FAULT, -2, 0);

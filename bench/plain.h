@@ -4,7 +4,7 @@
 
 #include <stdint.h>
 
-enum { PLAIN_TASKS = 32, PLAIN_AREA = 256, PLAIN_EVENTS = 64, PLAIN_IMAGE = PLAIN_TASKS * 20 };
+enum { PLAIN_TASKS = 32, PLAIN_PRIORITIES = 32, PLAIN_EVENTS = 64, PLAIN_AREA = 256, PLAIN_IMAGE = PLAIN_TASKS * 20 };
 
 struct plain_request {
     int32_t kind, arg[5];

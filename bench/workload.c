@@ -47,15 +47,18 @@ static bool serves(uint32_t tid)
     return tid >= 2 && tid < 2 + servers;
 }
 
-/* Makes every task. One that runs before task 1 goes on waits for a sender, or for an event of its own. */
+/* Makes every task. One that runs before task 1 goes on waits for a sender, for an event of its own, or for a server. */
 static void make_all(void)
 {
     for (uint32_t tid = 2; tid <= tasks; tid++) {
         while (table.active->tid != 1) {
-            if (serves(table.active->tid))
+            int32_t active = table.active->tid;
+            if (serves((uint32_t)active))
                 go(RECEIVE, 0, 64, 0, 0, 0);
+            else if (active < EVENTS)
+                go(AWAIT_EVENT, active, 0, 0, 0, 0);
             else
-                go(AWAIT_EVENT, table.active->tid, 0, 0, 0, 0);
+                go(SEND, 2, 0, 4, 0, 4);
         }
         uint32_t above = tid % 2 == 1 ? 2 : 12;
         go(CREATE, (int32_t)(serves(tid) ? tid * 3 % 4 + above : 4 + tid * 5 % 8), 0, 0, 0, 0);
@@ -102,7 +105,7 @@ static void ask(uint32_t tid)
     else if (roll < 92)
         go(YIELD, 0, 0, 0, 0, 0);
     else if (roll < 94)
-        go(SEND, 40, a, b, c, d); /* no such task */
+        go(SEND, TASKS + 8, a, b, c, d); /* no such task */
     else if (roll < 96)
         go(SEND, (int32_t)tid, a, b, c, d);
     else if (roll < 98)
