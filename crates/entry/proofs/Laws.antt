@@ -99,22 +99,22 @@ module _ (n : ℕ) (image areas request : List ℕ) (small : n < firstNegative) 
         (chosen P (ltb accepted (a .verdict)) (λ _. (refl, refl))
         (λ none. (omega (arith, ltb-false accepted (a .verdict) none), refl)))
 
-pub acceptedAgain : AcceptedAgain
-acceptedAgain n image areas request answer small = again n image areas request small answer
+pub accepted-again : AcceptedAgain
+accepted-again n image areas request answer small = again n image areas request small answer
 
-pub staysReadable : StaysReadable
-staysReadable n image areas request answer small = stays n image areas request small answer
+pub stays-readable : StaysReadable
+stays-readable n image areas request answer small = stays n image areas request small answer
 
-pub startReadable : StartReadable
+pub start-readable : StartReadable
 unfolding startCalled
-startReadable n priority image some =
+start-readable n priority image some =
     let P : StartCall → Type 0 = λ c. c .verdict ≡ accepted → Readable n (c .image) in
     chosen P (not (eqb (length image) (n * recordLength))) (λ _ e. absurd (omega arith))
     (λ _. chosen (λ (s : Started). s .verdict ≡ accepted → Readable n (imageOf (s .table))) (ltb priority priorities)
     (λ low _. good-readable (fresh-good n priority some (ltb-true priority priorities low))) (λ _ e. absurd (omega arith)))
 
-pub answerTells : AnswerTells
-answerTells n image areas request answer small room =
+pub answer-tells : AnswerTells
+answer-tells n image areas request answer small room =
     let a = due n image areas request .answer in
     let (same, bytes) = told n image areas request small answer room in
     (a, same, bytes, shown n a (due-outcome n image areas request small))
