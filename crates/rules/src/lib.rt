@@ -5,16 +5,16 @@ ghost use mathlib.Core.Path.{_≡_};
 ghost use Rattle.queue.specs.Row.{places};
 ghost use Rattle.rules.specs.Check.{checked};
 ghost use Rattle.rules.specs.Fresh.{unusedTable, started};
+use crate::slots::event_of;
 use crate::slots::good_used;
 use crate::slots::idle;
 use crate::slots::none_left;
-use crate::slots::ready_key;
 use crate::slots::rest_unused;
 use crate::slots::senders_key;
 use kernel::numbers::ACCEPTED;
 use kernel::numbers::BAD_PRIORITY;
-use kernel::parts::EVENT_BLOCKED;
-use kernel::parts::awaited;
+use kernel::parts::READY;
+use kernel::parts::RECEIVE_BLOCKED;
 use kernel::parts::state_code;
 use kernel::search::first_active;
 use kernel::search::used_slots;
@@ -52,15 +52,18 @@ pub fn check(table: Table) -> Checked
     while s < used {
         let task = tasks[s];
         let state = task.state;
+        let code = state_code(state);
         good &= good_used(task, used, s, active, senders_rows[s].len);
-        ready[s] = ready_key(task);
-        senders[s] = senders_key(task);
-        if state_code(state) == EVENT_BLOCKED {
-            let event = wide(awaited(state));
-            if event < EVENTS {
-                good &= wide(waiters[event]) == s + 1;
-                waiters[event] = 0;
-            }
+        if code == READY {
+            ready[s] = task.priority;
+        }
+        if code == RECEIVE_BLOCKED {
+            senders[s] = senders_key(state);
+        }
+        let event = event_of(state);
+        if event < EVENTS {
+            good &= wide(waiters[event]) == s + 1;
+            waiters[event] = 0;
         }
         s += 1;
     }
