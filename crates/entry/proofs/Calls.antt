@@ -1,12 +1,12 @@
 -- What a call comes to on each of its ways.
 use Prim.Native.Nat.{ℕ, _*_, _≤_, _<_}
 use native.Mathlib.Omega.{arith}
-use mathlib.Core.Path.{_≡_, refl, sym, ap, _∙_}
+use mathlib.Core.Path.{_≡_, refl, ap, _∙_}
 use mathlib.Core.Logic.{_≢_}
 use mathlib.Core.Bool.{true, false}
 use mathlib.Core.List.{List}
 use lib.ListN.{length, replicate, length-set, length-replicate}
-use lib.Dec.{ltb, eqb}
+use lib.Dec.{ltb}
 use borrow.Author.Tests.{eq-eqb, ne-eqb, lt-ltb, le-ltb}
 use Rattle.queue.proofs.Below.{by-test, both-true}
 use Rattle.kernel.specs.declared.table.Decision.{Decision}
@@ -25,7 +25,7 @@ use Rattle.image.specs.Record.{recordLength}
 use Rattle.image.specs.Image.{tableOf, isImage, reading, givenImage, stored}
 use Rattle.image.specs.Call.{requestLength, requestFrom, answerLength, answered}
 use Rattle.image.proofs.Shape.{table-shaped}
-use Rattle.entry.specs.Entry.{Call, call, unfit, due, called, AnsweredBy, startCall, startCalled}
+use Rattle.entry.specs.Entry.{call, unfit, due, called, AnsweredBy, startCall, startCalled}
 
 module _ (n : ℕ) (image areas request answer : List ℕ) where
   pub wrong-answer : length answer ≢ answerLength → call badAnswer image areas answer ≡ called n image areas request answer

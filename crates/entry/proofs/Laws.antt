@@ -1,22 +1,20 @@
 -- The laws of the byte entry, from what a step of a good table keeps and what an image gives back.
 use Prim.Native.Nat.{ℕ, _*_, _≤_, _<_}
 use native.Mathlib.Omega.{arith}
-use mathlib.Core.Path.{_≡_, refl, ap, _∙_}
+use mathlib.Core.Path.{_≡_, refl}
 use mathlib.Core.Bool.{true, false, not}
 use mathlib.Core.List.{List}
 use lib.ListN.{length}
 use lib.Dec.{ltb, eqb}
 use borrow.Author.Tests.{eq-eqb, ltb-true, ltb-false, not-false}
-use Rattle.queue.specs.Choose.{choose}
 use Rattle.kernel.specs.declared.table.Table.{Table}
 use Rattle.kernel.specs.declared.table.Decision.{Decision}
-use Rattle.kernel.specs.Numbers.{accepted, badPriority}
+use Rattle.kernel.specs.Numbers.{accepted}
 use Rattle.kernel.specs.Table.{firstNegative, priorities, areaBytes}
 use Rattle.kernel.specs.Decide.{decide}
 use Rattle.kernel.proofs.Tests.{chosen}
 use Rattle.rules.specs.Good.{goodOutcome}
 use Rattle.rules.specs.Facts.{Good}
-use Rattle.rules.specs.Fresh.{started}
 use Rattle.rules.specs.declared.Started.{Started}
 use Rattle.rules.proofs.Kept.{decide-sound}
 use Rattle.rules.proofs.Entries.{Sound}

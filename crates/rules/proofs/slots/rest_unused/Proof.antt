@@ -1,6 +1,6 @@
 -- `rest_unused`. The loop's invariant: `rest` tells of the slots before `s`, of which the used ones pass. The measure is what is left of them.
 use Prim.Native.Nat.{ℕ, _-_, _≤_}
-use mathlib.Core.Path.{_≡_, sym, _∙_}
+use mathlib.Core.Path.{_≡_, sym}
 use mathlib.Core.Bool.{Bool, _||_}
 use mathlib.Core.List.{List}
 use native.Mathlib.Omega.{arith}

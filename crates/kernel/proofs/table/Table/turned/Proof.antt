@@ -1,7 +1,6 @@
 -- `Table::turned`: each kind's own contract, at the kind that its arm knows.
 use Prim.Native.Nat.{_<_}
 use native.Mathlib.Omega.{arith}
-use borrow.Author.Needs.{needs}
 use Rattle.queue.specs.Row.{places}
 use Rattle.kernel.specs.Numbers.{eventKind}
 use Rattle.kernel.specs.Decide.{turnOf}
