@@ -2,11 +2,11 @@
  *
  * A kernel is two buffers that the host keeps: the image, which is the task table as stored records, and the areas, 256
  * bytes of memory for each task, that of task 1 first. The host lends them for a call. The functions keep nothing between
- * calls, call nothing, and allocate nothing, so a host may have as many kernels as it has buffers. It may stop, store the
- * buffers, and go on from them later.
+ * calls and allocate nothing, so a host may have as many kernels as it has buffers; it may stop, store the buffers, and go on
+ * from them later. Of other code they call memcpy, memmove and memset alone.
  *
  * The buffers of one call must not overlap, and nothing else may read or write them until it returns. They need no alignment.
- * A buffer of length 0 may be null. All numbers are little-endian. */
+ * All numbers are little-endian. */
 #ifndef BREDONYCH_H
 #define BREDONYCH_H
 
@@ -44,7 +44,7 @@ enum bredonych_kind {
     BREDONYCH_OWN_WRITE = 11     /* offset, value: one byte of the active task's own area; nobody is chosen anew */
 };
 
-/* The verdict of a call. Refused, the image and the areas are as before. */
+/* The verdict of a call. A refused step leaves the image and the areas as before. */
 enum bredonych_verdict {
     BREDONYCH_ACCEPTED = 0,
     BREDONYCH_BAD_AREAS = 1,    /* the areas are not 8,192 bytes */
@@ -88,7 +88,8 @@ enum bredonych_fault {
 uint32_t kernel_start(uint32_t priority, uint8_t *image, uint64_t image_length);
 
 /* One step: does what the record asks and answers the verdict, which is also the answer's first word. The image and the areas
- * are changed in place; refused, they are left as they are, and the answer says who is active (refusals 3, 4, 8 and 9) or 0. */
+ * are changed in place; refused, they are left as they are, and the answer says who is active (refusals 3, 4, 8 and 9) or 0.
+ * Refused by 10, the answer is not written either. */
 uint32_t kernel_step(uint8_t *image, uint64_t image_length, uint8_t *areas, uint64_t areas_length, const uint8_t *record,
                      uint64_t record_length, uint8_t *answer, uint64_t answer_length);
 
