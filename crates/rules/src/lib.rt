@@ -1,4 +1,6 @@
 // The rules of a table, whether a table keeps them, and the tables that a kernel starts from.
+pub mod keys;
+pub mod placed;
 mod slots;
 
 ghost use mathlib.Core.Path.{_≡_};
