@@ -71,9 +71,11 @@ loop-holds c =
     let t = start .args .t1 in
     let size = owned-shaped t _ (start .good .0) .tasks in
     let used = found .before .used-slots .ensures ∙ used-found places t size in
-    let active = found .first-active .ensures ∙ active-found places t size in
-    (omega (arith, first-used t .most, size), omega arith,
-    rw (c .before .rest-unused .ensures, c .idle .ensures, used, active, size) (sym (and-true _)))
+    let active = found .first-active .ensures ∙ active-found places t size in (
+      omega (arith, first-used t .most, size),
+      omega arith,
+      rw (c .before .rest-unused .ensures, c .idle .ensures, used, active, size) (sym (and-true _)),
+    )
 
 mul-task : tie.Need-mul-task Inv-loop μ-loop
 mul-task c = search needs
@@ -165,10 +167,12 @@ loop-again c =
     let named : c .if3 .good ≡ (sent .if2 .good && (leb events e || eqb (waiterAt t e) (s + 1))) =
     ⊎-elim (λ own. own .2 ∙ rw (lt-leb events e (own .0 .taken)))
     (λ other. other .1 ∙ rw (le-leb events e (other .0 .left)) (sym (and-true _)))
-    (c .if3 .came) in
-    (omega arith, omega arith,
-    named ∙ rw (senders, ready, at .loop .inv .2, stood .before .ready-key .ensures, target, c .before .event-key .ensures, all-more)
-    (regrouped (before t) (allBelow s (asked t list)) (slotHeld t s) _ _ _))
+    (c .if3 .came) in (
+      omega arith,
+      omega arith,
+      named ∙ rw (senders, ready, at .loop .inv .2, stood .before .ready-key .ensures, target, c .before .event-key .ensures, all-more)
+          (regrouped (before t) (allBelow s (asked t list)) (slotHeld t s) _ _ _),
+    )
 
 returns : tie.Need-returns Inv-loop μ-loop
 unfolding goodPlaced
