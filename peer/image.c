@@ -2,6 +2,7 @@
 #include "kernel.h"
 
 #include <string.h>
+#include "cover.h"
 
 /* Where the fields of a stored task stand. */
 enum {
@@ -76,6 +77,7 @@ static bool buffer_read(struct buffer *b, const uint8_t *at, bool in_use)
 {
     b->offset = get16(at);
     b->length = get16(at + 2);
+    MARK_ASK_MORE(in_use ? 0 : b->offset != 0 ? 1 : 2);
     if (!in_use)
         return b->offset == 0 && b->length == 0;
     return buffer_is_good((int32_t)b->offset, (int32_t)b->length);
@@ -87,13 +89,19 @@ static bool result_read(struct task *t, const uint8_t *slot, uint32_t used)
                         slot[AT_FROM] };
 
     t->result = r;
+    MARK_ASK(RULE_RESULT_KIND);
     switch (r.kind) {
     case RESULT_NOTHING:
+        MARK_ASK(r.from != 0 ? RULE_EMPTY_FROM : RULE_EMPTY_VALUE);
         return r.number == 0 && r.from == 0;
     case RESULT_VALUE:
+        MARK_ASK(r.number < 0 ? RULE_VALUE : RULE_VALUE_FROM);
+        MARK_ASK_IF(t->state != STATE_READY, RULE_RESULT_HELD);
         return t->state == STATE_READY && r.number >= 0 && r.from <= used;
     case RESULT_FAULT:
+        MARK_ASK(t->state != STATE_READY ? RULE_RESULT_HELD : RULE_FAULT);
         return t->state == STATE_READY && r.number >= -3 && r.number <= -1
+            MARK_AND_ASK(RULE_FAULT_FROM)
             && r.from == 0;
     default:
         return false;
@@ -102,6 +110,8 @@ static bool result_read(struct task *t, const uint8_t *slot, uint32_t used)
 
 static bool parent_is_good(uint32_t parent, uint32_t tid)
 {
+    MARK_ASK(tid == 1 ? RULE_PARENT_FIRST : RULE_PARENT_LATE);
+    MARK_ASK_IF(tid != 1 && parent == 0, RULE_PARENT_NONE);
     return tid == 1 ? parent == 0 : parent >= 1 && parent < tid;
 }
 
@@ -110,11 +120,15 @@ static bool waits_for_is_good(const struct task *t, uint32_t tid,
 {
     switch (t->state) {
     case STATE_RECEIVE_BLOCKED:
+        MARK_ASK(t->waits_for < 1 ? RULE_TARGET_NONE : RULE_TARGET_UNUSED);
         return t->waits_for >= 1 && t->waits_for <= used
+            MARK_AND_ASK(RULE_TARGET_SELF)
             && t->waits_for != tid;
     case STATE_EVENT_BLOCKED:
+        MARK_ASK(RULE_EVENT);
         return t->waits_for < EVENTS;
     default:
+        MARK_ASK(RULE_NAME_UNUSED);
         return t->waits_for == 0;
     }
 }
@@ -124,19 +138,27 @@ static bool waits_for_is_good(const struct task *t, uint32_t tid,
 static bool task_read(struct task *t, uint32_t tid, const uint8_t *slot,
                       uint32_t used)
 {
+    MARK_RECORD(STATE_UNUSED);
+    MARK_ASK(RULE_STATE);
     if (slot[AT_STATE] > STATE_EXITED)
         return false;
     t->state = (enum state)slot[AT_STATE];
     t->priority = slot[AT_PRIORITY];
     t->parent = slot[AT_PARENT];
     t->waits_for = slot[AT_WAITS_FOR];
+    MARK_RECORD(t->state);
+    MARK_ASK(RULE_PRIORITY);
     return t->priority < PRIORITIES
         && parent_is_good(t->parent, tid)
         && waits_for_is_good(t, tid, used)
+        MARK_AND_ASK(RULE_PLACE_UNUSED)
         && (uses_place(t->state) || slot[AT_PLACE] == 0)
+        MARK_AND_ASK(RULE_MESSAGE_BAD)
         && buffer_read(&t->message, slot + AT_MESSAGE, uses_message(t->state))
+        MARK_AND_ASK(RULE_REPLY_BAD)
         && buffer_read(&t->reply, slot + AT_REPLY, uses_reply(t->state))
         && result_read(t, slot, used)
+        MARK_AND_ASK(RULE_BYTE_15)
         && slot[AT_ZERO] == 0;
 }
 
@@ -149,8 +171,11 @@ static uint32_t used_read(const uint8_t *image)
     while (used < TASKS && image[used * SLOT_BYTES + AT_STATE] != STATE_UNUSED)
         used++;
     for (uint32_t i = used * SLOT_BYTES; i < IMAGE_BYTES; i++)
+        MARK_EACH_BYTE(image[i], i % SLOT_BYTES == AT_STATE)
         if (image[i] != 0)
             return 0;
+    MARK_RECORD(STATE_UNUSED);
+    MARK_ASK(RULE_NO_TASK);
     return used;
 }
 
@@ -169,6 +194,7 @@ static bool tasks_read(struct table *k, const uint8_t *image)
         else if (t->state == STATE_EVENT_BLOCKED)
             sole = &k->waiter[t->waits_for];
         if (sole != NULL) {
+            MARK_ASK(sole == &k->active ? RULE_ACTIVE_TWICE : RULE_EVENT_TWICE);
             if (*sole != 0)
                 return false;
             *sole = tid;
@@ -189,6 +215,8 @@ static bool queues_read(struct table *k, const uint8_t *image)
 
         if (!uses_place(k->task[tid].state))
             continue;
+        MARK_RECORD(k->task[tid].state);
+        MARK_ASK(RULE_PLACE_RANGE);
         if (place >= TASKS)
             return false; /* no queue is as long */
         other[tid] = first[place];
@@ -201,6 +229,8 @@ static bool queues_read(struct table *k, const uint8_t *image)
                             ? &k->ready[t->priority]
                             : &k->task[t->waits_for].senders;
 
+            MARK_RECORD(t->state);
+            MARK_ASK(q->length > place ? RULE_PLACE_TWICE : RULE_PLACE_GAP);
             if (q->length != place)
                 return false;
             table_append(k, q, tid);
@@ -215,6 +245,8 @@ static bool queues_fit(const struct table *k)
     for (uint32_t tid = 1; tid <= k->used; tid++) {
         const struct task *t = &k->task[tid];
 
+        MARK_RECORD(t->state);
+        MARK_ASK(t->state == STATE_READY ? RULE_NONE_ACTIVE : RULE_WAITING_SENDER);
         if (t->state == STATE_SEND_BLOCKED && t->senders.length != 0)
             return false;
         if (t->state == STATE_READY && k->active == 0)
@@ -268,6 +300,7 @@ static void places_write(const struct table *k, const struct queue *q,
 
 void table_write(struct table *k, uint8_t *image)
 {
+    MARK_IF(k->used == 0, WRITE_UNUSED);
     if (k->used == 0)
         return; /* the all-unused table is not a good one and has no image */
     memset(image, 0, IMAGE_BYTES);
@@ -313,15 +346,26 @@ uint32_t peer_step(uint8_t *image, uint64_t image_len,
     struct answer a = { 0, 0, { RESULT_NOTHING, 0, 0 } };
     struct table k;
 
+    MARK_IF(answer_len != ANSWER_BYTES, REFUSAL_10);
+    MARK_IF(answer_len != ANSWER_BYTES && record_len != RECORD_BYTES, ORDER_10_5);
     if (answer_len != ANSWER_BYTES)
         return REFUSED_ANSWER;
     if (record_len != RECORD_BYTES) {
+        MARK(REFUSAL_5);
+        MARK_IF(image_len != IMAGE_BYTES, ORDER_5_7);
         a.verdict = REFUSED_RECORD;
     } else if (image_len != IMAGE_BYTES) {
+        MARK(REFUSAL_7);
+        MARK_IF(areas_len != AREAS_BYTES, ORDER_7_1);
         a.verdict = REFUSED_IMAGE;
     } else if (areas_len != AREAS_BYTES) {
+        MARK(REFUSAL_1);
+        MARK_IF(!table_read(&k, image), ORDER_1_2);
         a.verdict = REFUSED_AREAS;
     } else if (!table_read(&k, image)) {
+        MARK(REFUSAL_2);
+        MARK_RULE();
+        MARK_IF(get32(record) - 1 >= KIND_OWN_WRITE, ORDER_2_3);
         a.verdict = REFUSED_TABLE;
     } else {
         struct request q = request_read(record);
@@ -339,8 +383,10 @@ uint32_t peer_start(uint32_t priority, uint8_t *image, uint64_t image_len)
     struct table k;
     uint32_t refusal = table_start(&k, priority);
 
+    MARK_IF(refusal != 0 && image_len != IMAGE_BYTES, START_6_7);
     if (refusal != 0)
         return refusal;
+    MARK_IF(image_len != IMAGE_BYTES, START_7);
     if (image_len != IMAGE_BYTES)
         return REFUSED_IMAGE;
     table_write(&k, image);

@@ -2,6 +2,7 @@
 #include "kernel.h"
 
 #include <string.h>
+#include "cover.h"
 
 static const struct result nothing = { RESULT_NOTHING, 0, 0 };
 
@@ -29,6 +30,7 @@ bool buffer_is_good(int32_t offset, int32_t length)
 
 static struct buffer buffer_of(int32_t offset, int32_t length)
 {
+    MARK_IF(offset == AREA, END_BUFFER);
     return (struct buffer){ (uint32_t)offset, (uint32_t)length };
 }
 
@@ -95,8 +97,10 @@ static void create(struct table *k, const struct request *q)
     int32_t priority = q->arg[0];
 
     if (priority < 0 || priority >= PRIORITIES) {
+        MARK(k->used == TASKS ? CREATE_PRIORITY_FULL : CREATE_PRIORITY);
         caller->result = fault(-1);
     } else if (k->used == TASKS) {
+        MARK(CREATE_FULL);
         caller->result = fault(-2);
     } else {
         uint32_t tid = ++k->used;
@@ -104,6 +108,7 @@ static void create(struct table *k, const struct request *q)
         k->task[tid].priority = (uint32_t)priority;
         k->task[tid].parent = k->active;
         make_ready(k, tid, nothing);
+        MARK(k->used == TASKS ? CREATE_LAST : CREATE_OK);
         caller->result = value(tid);
     }
 }
@@ -115,15 +120,23 @@ static void send_message(struct table *k, uint8_t *areas,
     uint32_t tid = (uint32_t)q->arg[0];
 
     if (!task_exists(k, q->arg[0])) {
+        MARK_MISSING(SEND_RANGE, tid, k->used);
+        MARK_IF(!buffer_is_good(q->arg[1], q->arg[2]), SEND_GONE_MESSAGE);
+        MARK_IF(!buffer_is_good(q->arg[3], q->arg[4]), SEND_GONE_REPLY);
         caller->result = fault(-1);
         return;
     }
     if (tid == k->active) {
+        MARK(SEND_SELF);
+        MARK_IF(!buffer_is_good(q->arg[1], q->arg[2]), SEND_SELF_MESSAGE);
+        MARK_IF(!buffer_is_good(q->arg[3], q->arg[4]), SEND_SELF_REPLY);
         caller->result = fault(-2);
         return;
     }
     if (!buffer_is_good(q->arg[1], q->arg[2])
         || !buffer_is_good(q->arg[3], q->arg[4])) {
+        MARK_IF(buffer_is_good(q->arg[3], q->arg[4]), SEND_MESSAGE);
+        MARK_IF(buffer_is_good(q->arg[1], q->arg[2]), SEND_REPLY);
         caller->result = fault(-3);
         return;
     }
@@ -131,10 +144,12 @@ static void send_message(struct table *k, uint8_t *areas,
     caller->message = buffer_of(q->arg[1], q->arg[2]);
     caller->reply = buffer_of(q->arg[3], q->arg[4]);
     if (target->state == STATE_SEND_BLOCKED) {
+        MARK_DELIVERY(SEND_WAITING, caller->message, target->message);
         deliver(areas, k->active, caller->message, tid, target->message);
         caller->state = STATE_REPLY_BLOCKED;
         make_ready(k, tid, received(caller->message.length, k->active));
     } else {
+        MARK(target->senders.length == 0 ? SEND_QUEUED : SEND_BEHIND);
         caller->state = STATE_RECEIVE_BLOCKED;
         caller->waits_for = tid;
         table_append(k, &target->senders, k->active);
@@ -148,16 +163,19 @@ static void receive_message(struct table *k, uint8_t *areas,
     uint32_t tid;
 
     if (!buffer_is_good(q->arg[0], q->arg[1])) {
+        MARK(RECEIVE_BUFFER);
         caller->result = fault(-3);
         return;
     }
     caller->message = buffer_of(q->arg[0], q->arg[1]);
     if (caller->senders.length == 0) {
+        MARK(RECEIVE_WAITS);
         caller->state = STATE_SEND_BLOCKED;
         return;
     }
     tid = take_head(k, &caller->senders);
     sender = &k->task[tid];
+    MARK_DELIVERY(RECEIVE_QUEUE, sender->message, caller->message);
     deliver(areas, tid, sender->message, k->active, caller->message);
     sender->state = STATE_REPLY_BLOCKED;
     caller->result = received(sender->message.length, tid);
@@ -171,20 +189,27 @@ static void reply_message(struct table *k, uint8_t *areas,
     struct buffer reply;
 
     if (!task_exists(k, q->arg[0])) {
+        MARK_MISSING(REPLY_RANGE, tid, k->used);
+        MARK_IF(!buffer_is_good(q->arg[1], q->arg[2]), REPLY_GONE_BUFFER);
         caller->result = fault(-1);
         return;
     }
     if (k->task[tid].state != STATE_REPLY_BLOCKED) {
+        MARK(tid == k->active ? REPLY_SELF : REPLY_STATE);
+        MARK_IF(!buffer_is_good(q->arg[1], q->arg[2]), REPLY_STATE_BUFFER);
         caller->result = fault(-2);
         return;
     }
     if (!buffer_is_good(q->arg[1], q->arg[2])) {
+        MARK(REPLY_BUFFER);
         caller->result = fault(-3);
         return;
     }
     /* The sender learns the full length, the replier the count copied. */
     reply = buffer_of(q->arg[1], q->arg[2]);
     copied = deliver(areas, k->active, reply, tid, k->task[tid].reply);
+    MARK_DELIVERY(REPLY_WHOLE, reply, k->task[tid].reply);
+    MARK_IF(k->task[tid].priority == caller->priority, REPLY_EQUAL);
     make_ready(k, tid, value(reply.length));
     caller->result = value(copied);
 }
@@ -195,10 +220,13 @@ static void await_event(struct table *k, const struct request *q)
     int32_t event = q->arg[0];
 
     if (!event_is_good(event)) {
+        MARK(AWAIT_RANGE);
         caller->result = fault(-1);
     } else if (k->waiter[event] != 0) {
+        MARK(AWAIT_TAKEN);
         caller->result = fault(-3);
     } else {
+        MARK(AWAIT_OK);
         k->waiter[event] = k->active;
         caller->state = STATE_EVENT_BLOCKED;
         caller->waits_for = (uint32_t)event;
@@ -211,7 +239,11 @@ static void event_happens(struct table *k, const struct request *q)
     uint32_t *waiter = &k->waiter[q->arg[0]];
     int32_t data = q->arg[1];
 
+    MARK_IF(*waiter != 0, k->active ? EVENT_WAKES_ACTIVE : EVENT_WAKES_IDLE);
+    MARK_IF(*waiter == 0, k->active ? EVENT_NONE_ACTIVE : EVENT_NONE_IDLE);
+    MARK_IF(*waiter == 0 && COVER_COMPANY(k), EVENT_TURNS);
     if (*waiter != 0) {
+        MARK(data >= 0 ? EVENT_DATA : EVENT_CORRUPT);
         make_ready(k, *waiter, data >= 0 ? value((uint32_t)data) : fault(-2));
         *waiter = 0;
     }
@@ -221,6 +253,10 @@ static void serve(struct table *k, uint8_t *areas, const struct request *q)
 {
     struct task *caller = &k->task[k->active];
 
+    MARK_IF(q->kind == KIND_MY_TID, TID);
+    MARK_IF(q->kind == KIND_MY_PARENT_TID, COVER_PARENT(k));
+    MARK_IF(q->kind == KIND_YIELD, YIELD_ALONE + COVER_COMPANY(k));
+    MARK_IF(q->kind == KIND_EXIT && caller->senders.length > 0, EXIT_SENDERS);
     switch (q->kind) {
     case KIND_CREATE:        create(k, q); break;
     case KIND_MY_TID:        caller->result = value(k->active); break;
@@ -253,10 +289,15 @@ static struct answer schedule(struct table *k)
             t = &k->task[a.next];
             t->state = STATE_ACTIVE;
             a.result = t->result;
+            MARK_IF(a.result.kind == RESULT_NOTHING, SHOW_NOTHING);
+            MARK_IF(a.result.kind == RESULT_VALUE, SHOW_VALUE + !!a.result.from);
+            MARK_IF(a.result.kind == RESULT_FAULT, SHOW_FAULT);
             t->result = nothing; /* shown once only */
             break;
         }
     }
+    MARK_IF(a.next == 0, SHOW_IDLE);
+    MARK_IF(caller->state == STATE_EXITED, EXIT_TO_TASK + !a.next);
     return a;
 }
 
@@ -280,6 +321,7 @@ static uint32_t refusal_of(const struct table *k, const struct request *q)
 uint32_t table_start(struct table *k, uint32_t priority)
 {
     *k = (struct table){ 0 };
+    MARK_IF(priority >= PRIORITIES, START_6);
     if (priority >= PRIORITIES)
         return REFUSED_PRIORITY;
     k->used = 1;
@@ -294,9 +336,11 @@ struct answer table_step(struct table *k, uint8_t *areas,
 {
     struct answer standing = { refusal_of(k, q), k->active, nothing };
 
+    MARK_REFUSED(standing.verdict, k->active, q);
     if (standing.verdict != 0)
         return standing;
     if (q->kind == KIND_OWN_WRITE) {
+        MARK(WRITE_OWN);
         /* The task's own store: no kernel entry, so no scheduling. */
         areas[(k->active - 1) * AREA + (uint32_t)q->arg[0]]
             = (uint8_t)q->arg[1];

@@ -5,6 +5,7 @@
 #include <inttypes.h>
 #include <stdio.h>
 #include <string.h>
+#include "cover.h"
 
 enum {
     BLOCK_RECORDS = 2048,
@@ -67,6 +68,7 @@ static int run(void)
         fflush(stdout);
         return complain("cannot read the input");
     }
+    MARK_IF(got % RECORD_BYTES != 0, END_R5);
     if (got % RECORD_BYTES != 0)
         printf("end R5\n");
     return finish();
@@ -154,12 +156,14 @@ static int cases(void)
     }
     if (over)
         return finish();
+    MARK(strstr(wrong, "cut") != NULL ? CASE_CUT : CASE_LONG);
     fflush(stdout); /* the cases before the bad one; one complaint is enough */
     return complain(ferror(stdin) ? "cannot read the input" : wrong);
 }
 
 int main(int argc, char **argv)
 {
+    MARK_PROGRAM(argc, argv);
     setvbuf(stdout, NULL, _IOFBF, STREAM_BLOCK);
     if (argc == 2 && strcmp(argv[1], "run") == 0)
         return run();
