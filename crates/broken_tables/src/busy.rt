@@ -5,13 +5,13 @@ use kernel::numbers::CREATE;
 use kernel::numbers::EXIT;
 use kernel::numbers::RECEIVE;
 use kernel::numbers::SEND;
-use kernel::parts::state_code;
-use kernel::table::AREA;
 use kernel::table::Request;
-use kernel::table::SLOTS;
 use kernel::table::Table;
 use libc::STDOUT_FILENO;
 use queue::NO_ROW;
+use task::parts::state_code;
+use task::task::AREA;
+use task::task::SLOTS;
 
 // A request of the active task. A Send's message has 4 bytes, and its reply is awaited in 4 bytes from 8 on.
 fn asked(table: Table, kind: u32, arg0: u32, arg1: u32) -> Table {

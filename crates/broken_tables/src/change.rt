@@ -13,9 +13,9 @@ use crate::put::with_state;
 use crate::put::with_task;
 use crate::put::with_waiter;
 use crate::tally::Tally;
-use kernel::table::Outcome;
-use kernel::table::State;
 use queue::Queue;
+use task::task::Outcome;
+use task::task::State;
 
 // Tasks.
 impl Tally {

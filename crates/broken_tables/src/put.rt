@@ -1,17 +1,17 @@
 // A table with one part put in, all else as it was. A slot, a row or an event past the last changes nothing.
 // Nothing keeps the rules here: these are the hands that break them.
-use kernel::table::Buffer;
-use kernel::table::EVENTS;
-use kernel::table::Outcome;
-use kernel::table::PRIORITIES;
-use kernel::table::SLOTS;
-use kernel::table::State;
 use kernel::table::Table;
-use kernel::table::Task;
 use queue::PLACES;
 use queue::Queue;
 use queue::slot;
 use queue::wide;
+use task::task::Buffer;
+use task::task::EVENTS;
+use task::task::Outcome;
+use task::task::PRIORITIES;
+use task::task::SLOTS;
+use task::task::State;
+use task::task::Task;
 
 // A row whose first places hold three tids, and zeros behind them.
 pub(crate) fn row(first: u8, second: u8, third: u8, len: u8) -> Queue {

@@ -1,12 +1,12 @@
 // Writes what a step says of a table, and counts.
 use kernel::numbers::ACCEPTED;
 use kernel::numbers::EVENT;
-use kernel::table::AREA;
 use kernel::table::Request;
-use kernel::table::SLOTS;
 use kernel::table::Table;
 use libc::STDOUT_FILENO;
 use std::num::wrapping_add_u64;
+use task::task::AREA;
+use task::task::SLOTS;
 
 // How many tables of a kind, good ones or broken ones, were tried, and how many of them were found to be so.
 pub(crate) struct Tally {

@@ -1,6 +1,6 @@
 // The rules of single tasks, each broken alone.
 use crate::tally::Tally;
-use kernel::table::FIRST_NEGATIVE;
+use task::task::FIRST_NEGATIVE;
 
 // The used slots are a first run, at least one. Tid 13 is the first that is unused.
 pub(crate) fn first_run(tally: Tally) -> Tally {

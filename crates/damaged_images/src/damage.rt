@@ -2,8 +2,8 @@
 use image::stored::IMAGE;
 use image::stored::read;
 use kernel::numbers::BAD_TABLE;
-use kernel::parts::RECEIVE_BLOCKED;
 use std::num::wrapping_add_u64;
+use task::parts::RECEIVE_BLOCKED;
 
 // The bytes of a record, and how many positions there are.
 pub(crate) const RECORD: usize = 20;

@@ -5,9 +5,9 @@ use image::call::REQUEST;
 use image::stored::IMAGE;
 use image::stored::read;
 use kernel::numbers::EVENT;
-use kernel::table::AREA;
-use kernel::table::SLOTS;
 use libc::STDOUT_FILENO;
+use task::task::AREA;
+use task::task::SLOTS;
 
 const SEED: u32 = 2026;
 

@@ -15,11 +15,11 @@ use kernel::numbers::BAD_AREAS;
 use kernel::numbers::BAD_IMAGE;
 use kernel::numbers::BAD_RECORD;
 use kernel::numbers::BAD_TABLE;
-use kernel::table::AREA;
 use kernel::table::Answer;
-use kernel::table::Outcome;
-use kernel::table::SLOTS;
 use step::areas::apply;
+use task::task::AREA;
+use task::task::Outcome;
+use task::task::SLOTS;
 
 // A refusal is answered with no next task and no result; its number is also returned.
 fn refuse(verdict: u8, answer: &mut [u8]) -> u32

@@ -8,9 +8,9 @@ use kernel::numbers::CREATE;
 use kernel::numbers::OWN_WRITE;
 use kernel::numbers::RECEIVE;
 use kernel::numbers::SEND;
-use kernel::table::AREA;
-use kernel::table::SLOTS;
 use libc::STDOUT_FILENO;
+use task::task::AREA;
+use task::task::SLOTS;
 
 const AREAS: usize = SLOTS * AREA;
 

@@ -17,8 +17,9 @@ use Rattle.queue.specs.Placed.{placedRow, placed}
 use Rattle.queue.specs.Facts.{RowsFacts}
 use Rattle.queue.proofs.Below.{by-test, same-test, all-below, below-all}
 use Rattle.queue.proofs.Facts.{slot-place}
+use Rattle.task.specs.Task.{priorities, noTask, stateCode, awaited, isUsed, isReady, isReceiveBlocked}
 use Rattle.kernel.specs.declared.table.Table.{Table}
-use Rattle.kernel.specs.Table.{priorities, noTask, taskAt, stateCode, awaited, slots, usedSlots, isUsed, isReady, isReceiveBlocked}
+use Rattle.kernel.specs.Table.{taskAt, slots, usedSlots}
 use Rattle.rules.specs.Good.{goodTable}
 use Rattle.rules.specs.Facts.{UsedFacts, Good}
 use Rattle.rules.proofs.Good.{good-facts}

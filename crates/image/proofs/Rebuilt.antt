@@ -11,15 +11,15 @@ use lib.Dec.{eqb, ltb}
 use borrow.Author.Tests.{eqb-true, eq-eqb, ne-eqb, lt-ltb}
 use Rattle.queue.specs.Choose.{choose}
 use Rattle.queue.proofs.Below.{both-true, true-both, by-test, same-test, all-below, below-all}
-use Rattle.kernel.specs.declared.table.Outcome.{Outcome}
-use Rattle.kernel.specs.declared.table.Outcome.the-variants.{Nothing, Fault}
-use Rattle.kernel.specs.declared.table.State.{State}
-use Rattle.kernel.specs.Table.{stateCode, messageOf, replyOf, awaited, isUsed, isReady, isReceiveBlocked}
-use Rattle.kernel.specs.declared.table.Task.{Task}
+use Rattle.task.specs.declared.task.Outcome.{Outcome}
+use Rattle.task.specs.declared.task.Outcome.the-variants.{Nothing, Fault}
+use Rattle.task.specs.declared.task.State.{State}
+use Rattle.task.specs.Task.{stateCode, messageOf, replyOf, awaited, isUsed, isReady, isReceiveBlocked}
+use Rattle.task.specs.declared.task.Task.{Task}
 use Rattle.image.specs.declared.fields.Parts.{Parts}
 use Rattle.image.specs.declared.fields.Told.{Told}
 use Rattle.image.specs.Bytes.{bytesOf, numberIn, same}
-use Rattle.kernel.specs.Result.{negated, resultWord}
+use Rattle.task.specs.Result.{negated, resultWord}
 use Rattle.image.specs.Told.{toldOf}
 use Rattle.image.specs.Record.{recordLength, atState, atPriority, atParent, atPlace, atAwaited, atResult, atMessage, atReply, atFrom, atSpare, atWord, byteIn, bufferIn, bufferBytes, partsOf, partsIn, toldIn, stateFrom, outcomeFrom, fields, taskRecord, usedFrom, taskFrom, placeFrom}
 use Rattle.image.specs.Exact.{sameParts, sameTold, exactRest, exactUsed, exactRecord}

@@ -6,10 +6,10 @@ use native.Mathlib.Omega.{arith}
 use lib.Dec.{ltb, leb}
 use borrow.Author.Tests.{ltb-true, leb-true}
 use Rattle.queue.proofs.Below.{both-true}
+use Rattle.task.specs.declared.task.Outcome.{Outcome}
+use Rattle.task.specs.declared.task.Outcome.the-variants.{Nothing, Value, Fault}
+use Rattle.task.specs.Task.{firstNegative}
 use Rattle.kernel.specs.declared.table.Answer.{Answer}
-use Rattle.kernel.specs.declared.table.Outcome.{Outcome}
-use Rattle.kernel.specs.declared.table.Outcome.the-variants.{Nothing, Value, Fault}
-use Rattle.kernel.specs.Table.{firstNegative}
 use Rattle.rules.specs.Good.{goodOutcome}
 use Rattle.image.specs.Call.{answerBytes}
 use Rattle.image.specs.Shown.{Shown}

@@ -7,7 +7,7 @@ use Rattle.queue.specs.Choose.{choose}
 use Rattle.kernel.specs.declared.table.Request.{Request}
 use Rattle.kernel.specs.declared.table.Answer.{Answer}
 use Rattle.image.specs.Bytes.{bytesOf, numberIn}
-use Rattle.kernel.specs.Result.{resultKind, resultWord, resultFrom}
+use Rattle.task.specs.Result.{resultKind, resultWord, resultFrom}
 
 abbrev pub requestLength : ℕ
 requestLength = 24

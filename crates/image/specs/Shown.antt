@@ -2,10 +2,10 @@
 use Prim.Native.Nat.{ℕ, _≤_, _<_}
 use mathlib.Core.Path.{_≡_}
 use mathlib.Core.Logic.{_↔_}
+use Rattle.task.specs.Task.{firstNegative}
 use Rattle.kernel.specs.declared.table.Answer.{Answer}
-use Rattle.kernel.specs.Table.{firstNegative}
 use Rattle.image.specs.Bytes.{numberIn}
-use Rattle.kernel.specs.Result.{negated}
+use Rattle.task.specs.Result.{negated}
 use Rattle.image.specs.Call.{answerBytes, atKind, atValue, atSender}
 
 abbrev pub wordAt : Answer → ℕ → ℕ

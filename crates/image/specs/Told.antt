@@ -1,6 +1,6 @@
 -- The numbers of a result together, as the stored record and the answer have them.
-use Rattle.kernel.specs.declared.table.Outcome.{Outcome}
-use Rattle.kernel.specs.Result.{resultKind, resultWord, resultFrom}
+use Rattle.task.specs.declared.task.Outcome.{Outcome}
+use Rattle.task.specs.Result.{resultKind, resultWord, resultFrom}
 use Rattle.image.specs.declared.fields.Told.{Told}
 
 abbrev pub toldOf : Outcome → Told

@@ -8,9 +8,9 @@ use lib.Dec.{ltb, leb, eqb}
 use borrow.Author.Tests.{ltb-true, leb-true, eq-eqb, ne-eqb, not-false}
 use Rattle.queue.specs.Choose.{choose}
 use Rattle.queue.proofs.Below.{both-true}
+use Rattle.task.specs.Task.{events, areaBytes}
 use Rattle.kernel.specs.declared.table.Request.{Request}
 use Rattle.kernel.specs.Numbers.{createKind, eventKind, ownWriteKind, accepted, badKind, noneActive, badEvent, badWrite}
-use Rattle.kernel.specs.Table.{events, areaBytes}
 use Rattle.kernel.specs.Refusal.{refusalOf}
 
 left-out : (b : Bool) (v w : ℕ) → (v ≡ 0 → ⊥) → choose b v w ≡ 0 → (b ≡ false) × (w ≡ 0)

@@ -10,11 +10,12 @@ use borrow.Author.Tests.{lt-ltb, le-ltb, ne-eqb, ltb-false}
 use Rattle.queue.specs.declared.Queue.{Queue}
 use Rattle.queue.specs.Row.{pushedRow}
 use Rattle.queue.proofs.Below.{by-test}
-use Rattle.kernel.specs.declared.table.State.{State}
-use Rattle.kernel.specs.declared.table.Outcome.{Outcome}
+use Rattle.task.specs.declared.task.State.{State}
+use Rattle.task.specs.declared.task.Outcome.{Outcome}
+use Rattle.task.specs.Task.{noTask, isReady, taskAs}
 use Rattle.kernel.specs.declared.table.Table.{Table}
-use Rattle.kernel.specs.Table.{slots, noTask, taskAt, readyRow, withReady, isReady}
-use Rattle.kernel.specs.Moves.{taskAs, leftAs, joined, joinedTid}
+use Rattle.kernel.specs.Table.{slots, taskAt, readyRow, withReady}
+use Rattle.kernel.specs.Moves.{leftAs, joined, joinedTid}
 use Rattle.kernel.specs.Turn.{readyTid}
 
 -- somebody stands in a row that was joined

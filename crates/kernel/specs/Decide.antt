@@ -2,8 +2,8 @@
 use Prim.Native.Nat.{ℕ, _+_}
 use lib.Dec.{ltb, eqb}
 use Rattle.queue.specs.Choose.{choose}
-use Rattle.kernel.specs.declared.table.Buffer.{Buffer}
-use Rattle.kernel.specs.declared.table.Outcome.the-variants.{Nothing}
+use Rattle.task.specs.declared.task.Buffer.{Buffer}
+use Rattle.task.specs.declared.task.Outcome.the-variants.{Nothing}
 use Rattle.kernel.specs.declared.table.Table.{Table}
 use Rattle.kernel.specs.declared.table.Request.{Request}
 use Rattle.kernel.specs.declared.table.Effect.the-variants.{Keep, Put}

@@ -5,16 +5,17 @@ use mathlib.Core.Bool.{Bool, not, _&&_}
 use lib.Dec.{ltb, leb, eqb}
 use Rattle.queue.specs.Choose.{choose}
 use Rattle.queue.specs.Row.{placeAt}
-use Rattle.kernel.specs.declared.table.Buffer.{Buffer}
-use Rattle.kernel.specs.declared.table.Outcome.{Outcome}
-use Rattle.kernel.specs.declared.table.Outcome.the-variants.{Nothing, Value, Fault}
-use Rattle.kernel.specs.declared.table.State.the-variants.{Ready, SendBlocked, ReceiveBlocked, ReplyBlocked, EventBlocked, Exited}
-use Rattle.kernel.specs.declared.table.Task.{Task}
+use Rattle.task.specs.declared.task.Buffer.{Buffer}
+use Rattle.task.specs.declared.task.Outcome.{Outcome}
+use Rattle.task.specs.declared.task.Outcome.the-variants.{Nothing, Value, Fault}
+use Rattle.task.specs.declared.task.State.the-variants.{Ready, SendBlocked, ReceiveBlocked, ReplyBlocked, EventBlocked, Exited}
+use Rattle.task.specs.declared.task.Task.{Task}
+use Rattle.task.specs.Task.{priorities, events, areaBytes, isNegative, goodBuffer, messageOf, replyOf, isAlive, isSendBlocked, isReplyBlocked}
 use Rattle.kernel.specs.declared.table.Table.{Table}
 use Rattle.kernel.specs.declared.table.Effect.{Effect}
 use Rattle.kernel.specs.declared.table.Effect.the-variants.{Keep, Copy}
 use Rattle.kernel.specs.declared.table.Turn.{Turn}
-use Rattle.kernel.specs.Table.{priorities, events, areaBytes, isNegative, slots, taskAt, sendersRow, waiterAt, withTask, withWaiter, goodBuffer, messageOf, replyOf, isAlive, isSendBlocked, isReplyBlocked, usedSlots}
+use Rattle.kernel.specs.Table.{slots, taskAt, sendersRow, waiterAt, withTask, withWaiter, usedSlots}
 use Rattle.kernel.specs.Moves.{leftAs, queued, received}
 use Rattle.kernel.specs.Turn.{resumes, stops}
 

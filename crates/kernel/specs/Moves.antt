@@ -3,29 +3,16 @@ use Prim.Native.Nat.{ℕ, _+_, _-_}
 use lib.Dec.{ltb, eqb}
 use Rattle.queue.specs.Choose.{choose, firstBelow}
 use Rattle.queue.specs.Row.{placeAt, pushedRow, poppedRow}
-use Rattle.kernel.specs.declared.table.Outcome.{Outcome}
-use Rattle.kernel.specs.declared.table.Outcome.the-variants.{Nothing}
-use Rattle.kernel.specs.declared.table.State.{State}
-use Rattle.kernel.specs.declared.table.State.the-variants.{Active}
-use Rattle.kernel.specs.declared.table.Task.{Task}
-use Rattle.kernel.specs.declared.table.Taken.{Taken}
+use Rattle.task.specs.declared.task.Outcome.{Outcome}
+use Rattle.task.specs.declared.task.Outcome.the-variants.{Nothing}
+use Rattle.task.specs.declared.task.State.{State}
+use Rattle.task.specs.declared.task.State.the-variants.{Active}
+use Rattle.task.specs.Task.{priorities, taskAs}
 use Rattle.kernel.specs.declared.table.Table.{Table}
 use Rattle.kernel.specs.declared.table.Effect.{Effect}
 use Rattle.kernel.specs.declared.table.Decision.{Decision}
 use Rattle.kernel.specs.Numbers.{accepted}
-use Rattle.kernel.specs.Table.{priorities, taskAt, readyRow, sendersRow, withTask, withReady, withSenders}
-
--- a task in another state, with a result to be told; its priority and its parent stay
-abbrev pub taskAs : State → Outcome → Task → Task
-taskAs st o x = record { state = st; priority = x .priority; parent = x .parent; outcome = o }
-
--- a task whose result has been taken out of its record
-abbrev pub cleared : Task → Task
-cleared x = taskAs (x .state) Nothing x
-
--- the same beside the result
-abbrev pub takenFrom : Task → Taken
-takenFrom x = record { task = cleared x; outcome = x .outcome }
+use Rattle.kernel.specs.Table.{taskAt, readyRow, sendersRow, withTask, withReady, withSenders}
 
 -- a task is left in a state, with a result to be told
 abbrev pub leftAs : Table → ℕ → State → Outcome → Table

@@ -5,9 +5,9 @@ use mathlib.Core.Logic.{_≢_}
 use mathlib.Core.Bool.{not, _&&_}
 use lib.Dec.{ltb, leb, eqb}
 use Rattle.queue.specs.Choose.{choose}
+use Rattle.task.specs.Task.{events, areaBytes}
 use Rattle.kernel.specs.declared.table.Request.{Request}
 use Rattle.kernel.specs.Numbers.{createKind, sendKind, receiveKind, replyKind, eventKind, ownWriteKind, accepted, badKind, noneActive, badEvent, badWrite}
-use Rattle.kernel.specs.Table.{events, areaBytes}
 
 -- the first refusal that holds, of a table of n slots whose active slot is a (n where none is); 0 where none does
 unfoldable pub refusalOf : ℕ → ℕ → Request → ℕ

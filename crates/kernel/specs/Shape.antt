@@ -5,8 +5,8 @@ use mathlib.Core.List.{List}
 use lib.ListN.{length}
 use Rattle.queue.specs.declared.Queue.{Queue}
 use Rattle.queue.specs.Rows.{rowAt}
+use Rattle.task.specs.Task.{priorities, events}
 use Rattle.kernel.specs.declared.table.Table.{Table}
-use Rattle.kernel.specs.Table.{priorities, events}
 
 -- m rows, each with a place for every slot
 pub record ShapedRows (n m : ℕ) (rows : List Queue) : Type 0 where

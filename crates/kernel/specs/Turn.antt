@@ -4,16 +4,17 @@ use Prim.Native.Nat.{ℕ, _+_, _<_}
 use mathlib.Core.Path.{_≡_}
 use lib.Dec.{ltb}
 use Rattle.queue.specs.Choose.{choose}
-use Rattle.kernel.specs.declared.table.State.{State}
-use Rattle.kernel.specs.declared.table.State.the-variants.{Ready}
-use Rattle.kernel.specs.declared.table.Outcome.{Outcome}
-use Rattle.kernel.specs.declared.table.Outcome.the-variants.{Nothing}
+use Rattle.task.specs.declared.task.State.{State}
+use Rattle.task.specs.declared.task.State.the-variants.{Ready}
+use Rattle.task.specs.declared.task.Outcome.{Outcome}
+use Rattle.task.specs.declared.task.Outcome.the-variants.{Nothing}
+use Rattle.task.specs.Task.{priorities, isReady}
 use Rattle.kernel.specs.declared.table.Effect.the-variants.{Keep}
 use Rattle.kernel.specs.declared.table.Table.{Table}
 use Rattle.kernel.specs.declared.table.Turn.{Turn}
 use Rattle.kernel.specs.declared.table.Rejoined.{Rejoined}
 use Rattle.kernel.specs.declared.table.Decision.{Decision}
-use Rattle.kernel.specs.Table.{priorities, slots, readyRow, isReady}
+use Rattle.kernel.specs.Table.{slots, readyRow}
 use Rattle.kernel.specs.Moves.{leftAs, joinedTid, dispatched}
 
 -- nobody was woken, and the caller goes on with a result

@@ -2,7 +2,7 @@
 ghost use mathlib.Core.Path.{_≡_};
 ghost use Prim.Native.Nat.{_<_};
 ghost use Rattle.queue.specs.Row.{places};
-ghost use Rattle.kernel.specs.Table.{areaBytes};
+ghost use Rattle.task.specs.Task.{areaBytes};
 ghost use Rattle.kernel.specs.Turn.{settled};
 ghost use Rattle.kernel.specs.Refusal.{refusalOf, Enters, Alone};
 ghost use Rattle.kernel.specs.Decide as Decide;
@@ -23,19 +23,19 @@ use crate::numbers::RECEIVE;
 use crate::numbers::REPLY;
 use crate::numbers::SEND;
 use crate::numbers::YIELD;
-use crate::search::first_active;
-use crate::table::AREA;
 use crate::table::Answer;
-use crate::table::Buffer;
 use crate::table::Decision;
-use crate::table::EVENTS;
 use crate::table::Effect;
-use crate::table::Outcome;
 use crate::table::Request;
-use crate::table::SLOTS;
 use crate::table::Table;
 use crate::table::Turn;
 use crate::turn::tid_of;
+use task::search::first_active;
+use task::task::AREA;
+use task::task::Buffer;
+use task::task::EVENTS;
+use task::task::Outcome;
+use task::task::SLOTS;
 
 impl Table {
     // What a step of a good table does: the decision where its own active task is active.

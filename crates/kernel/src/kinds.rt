@@ -3,26 +3,26 @@
 ghost use mathlib.Core.Path.{_≡_};
 ghost use Prim.Native.Nat.{_<_, min};
 ghost use Rattle.queue.specs.Row.{places};
-ghost use Rattle.kernel.specs.Table.{events};
+ghost use Rattle.task.specs.Task.{events};
 ghost use Rattle.kernel.specs.Turn.{resumes};
 ghost use Rattle.kernel.specs.Kinds as Kinds;
-use crate::parts::good_buffer;
-use crate::parts::is_alive;
-use crate::parts::message_of;
-use crate::parts::reply_of;
-use crate::search::used_slots;
-use crate::table::AREA;
-use crate::table::Buffer;
-use crate::table::EVENTS;
 use crate::table::Effect;
-use crate::table::FIRST_NEGATIVE;
-use crate::table::Outcome;
-use crate::table::PRIORITIES;
-use crate::table::SLOTS;
-use crate::table::State;
 use crate::table::Table;
-use crate::table::Task;
 use crate::table::Turn;
+use task::parts::good_buffer;
+use task::parts::is_alive;
+use task::parts::message_of;
+use task::parts::reply_of;
+use task::search::used_slots;
+use task::task::AREA;
+use task::task::Buffer;
+use task::task::EVENTS;
+use task::task::FIRST_NEGATIVE;
+use task::task::Outcome;
+use task::task::PRIORITIES;
+use task::task::SLOTS;
+use task::task::State;
+use task::task::Task;
 
 pub(crate) fn least(a: u32, b: u32) -> u32
     ensures { λ r. ⌜ r ≡ min a b ⌝ }

@@ -5,18 +5,18 @@ ghost use Rattle.queue.specs.Row.{places};
 ghost use Rattle.kernel.specs.Moves.{joinedTid, dispatched};
 ghost use Rattle.kernel.specs.Turn.{tidOf, Reaches, Rejoins, settled};
 use crate::numbers::ACCEPTED;
-use crate::outcome::taken;
-use crate::parts::READY;
-use crate::parts::state_code;
 use crate::table::Answer;
 use crate::table::Decision;
 use crate::table::Effect;
-use crate::table::Outcome;
-use crate::table::PRIORITIES;
 use crate::table::Rejoined;
-use crate::table::SLOTS;
-use crate::table::State;
 use crate::table::Table;
+use task::outcome::taken;
+use task::parts::READY;
+use task::parts::state_code;
+use task::task::Outcome;
+use task::task::PRIORITIES;
+use task::task::SLOTS;
+use task::task::State;
 
 impl Table {
     // The task of a tid joins the tail of the queue of its priority; 0 is nobody.

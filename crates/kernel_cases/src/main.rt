@@ -1,10 +1,10 @@
 // The cases that the paper has run and compared, in one run: its file `stdin` has their requests, and `stdout` their lines.
-use kernel::table::AREA;
-use kernel::table::SLOTS;
 use libc::STDIN_FILENO;
 use libc::STDOUT_FILENO;
 use lines::fresh_block;
 use lines::show_block;
+use task::task::AREA;
+use task::task::SLOTS;
 
 fn main() {
     let mut records = [0u8; 2048];

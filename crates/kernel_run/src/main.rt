@@ -6,8 +6,6 @@ ghost use lib.ListN.{length, take};
 ghost use Rattle.rules.specs.Good.{goodTable};
 ghost use Rattle.lines.specs.Block.{showed, roomFor};
 use image::call::REQUEST;
-use kernel::table::AREA;
-use kernel::table::SLOTS;
 use kernel::table::Table;
 use libc::STDERR_FILENO;
 use libc::STDIN_FILENO;
@@ -16,6 +14,8 @@ use lines::Block;
 use lines::LONGEST;
 use lines::fresh_block;
 use lines::show_block;
+use task::task::AREA;
+use task::task::SLOTS;
 
 // The first task's priority.
 const FIRST: u32 = 16;

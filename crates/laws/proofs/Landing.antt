@@ -7,7 +7,9 @@ use lib.Dec.{ltb, eqb}
 use borrow.Author.Tests.{eqb-true, eqb-false, leb-true, ltb-true, ltb-false, lt-ltb, not-false}
 use Rattle.queue.specs.Row.{placeAt}
 use Rattle.queue.proofs.Below.{both-true}
-use Rattle.kernel.specs.declared.table.Buffer.{Buffer}
+use Rattle.task.specs.declared.task.Buffer.{Buffer}
+use Rattle.task.specs.Task.{areaBytes, goodBuffer, messageOf, replyOf, isSendBlocked, isReplyBlocked}
+use Rattle.task.proofs.Tests.{chosen}
 use Rattle.kernel.specs.declared.table.Table.{Table}
 use Rattle.kernel.specs.declared.table.Request.{Request}
 use Rattle.kernel.specs.declared.table.Effect.{Effect}
@@ -15,11 +17,10 @@ use Rattle.kernel.specs.declared.table.Effect.the-variants.{Keep}
 use Rattle.kernel.specs.declared.table.Turn.{Turn}
 use Rattle.kernel.specs.declared.table.Decision.{Decision}
 use Rattle.kernel.specs.Numbers.{createKind, myTidKind, myParentTidKind, yieldKind, exitKind, sendKind, receiveKind, replyKind, awaitEventKind, eventKind, ownWriteKind, accepted}
-use Rattle.kernel.specs.Table.{areaBytes, slots, taskAt, sendersRow, goodBuffer, messageOf, replyOf, isSendBlocked, isReplyBlocked, activeSlot, usedSlots}
+use Rattle.kernel.specs.Table.{slots, taskAt, sendersRow, activeSlot, usedSlots}
 use Rattle.kernel.specs.Kinds.{alive, placeIn, create, myTid, myParentTid, yield, exit, send, receive, reply, awaitEvent, event}
 use Rattle.kernel.specs.Refusal.{refusalOf, Enters}
 use Rattle.kernel.specs.Decide.{buffer, turnOf, ownWrite, decideAt, decide}
-use Rattle.kernel.proofs.Tests.{chosen}
 use Rattle.kernel.proofs.Refusals.{fine}
 use Rattle.rules.specs.Facts.{Good}
 use Rattle.rules.proofs.Tasks.{codeAt, state-facts}

@@ -4,13 +4,14 @@ use mathlib.Core.Path.{_≡_}
 use lib.Dec.{eqb}
 use Rattle.queue.specs.Choose.{choose}
 use Rattle.queue.specs.Row.{placeAt}
-use Rattle.kernel.specs.declared.table.Buffer.{Buffer}
+use Rattle.task.specs.declared.task.Buffer.{Buffer}
+use Rattle.task.specs.Task.{areaBytes, messageOf, replyOf}
 use Rattle.kernel.specs.declared.table.Table.{Table}
 use Rattle.kernel.specs.declared.table.Request.{Request}
 use Rattle.kernel.specs.declared.table.Effect.{Effect}
 use Rattle.kernel.specs.declared.table.Effect.the-variants.{Keep, Copy, Put}
 use Rattle.kernel.specs.Numbers.{sendKind, receiveKind}
-use Rattle.kernel.specs.Table.{areaBytes, taskAt, sendersRow, messageOf, replyOf, activeSlot}
+use Rattle.kernel.specs.Table.{taskAt, sendersRow, activeSlot}
 use Rattle.kernel.specs.Decide.{activeTid, buffer}
 
 -- the task whose area a place of the areas lies in

@@ -8,12 +8,12 @@ use lib.ListN.{length, take, drop, length-append}
 use lib.Seq.{sets-eq, take-at, length-take-le}
 use lib.Dec.{eqb}
 use borrow.Author.Tests.{lt-ltb, le-ltb, eq-eqb, ne-eqb}
-use Rattle.kernel.specs.declared.table.Outcome.the-variants.{Value, Fault}
+use Rattle.task.specs.declared.task.Outcome.the-variants.{Value, Fault}
+use Rattle.task.specs.Task.{firstNegative}
+use Rattle.task.specs.Result.{negated}
 use Rattle.kernel.specs.declared.table.Answer.{Answer}
-use Rattle.kernel.specs.Table.{firstNegative}
-use Rattle.kernel.specs.Result.{negated}
 use Rattle.lines.specs.Text.{Appended, digits, decimal, signed}
-use Rattle.kernel.proofs.Tests.{chosen}
+use Rattle.task.proofs.Tests.{chosen}
 use Rattle.image.specs.Call.{requestLength}
 use Rattle.lines.specs.Line.{verdictText, outcomeText, answerText, lineOf, longest, endLine}
 use Rattle.lines.specs.Block.{endOf}

@@ -3,9 +3,9 @@ use Prim.Native.Nat.{ℕ}
 use mathlib.Core.List.{List, [], _∷_, _++_}
 use lib.Dec.{eqb}
 use Rattle.queue.specs.Choose.{choose}
-use Rattle.kernel.specs.declared.table.Outcome.{Outcome}
+use Rattle.task.specs.declared.task.Outcome.{Outcome}
+use Rattle.task.specs.Result.{resultKind, resultWord, resultFrom}
 use Rattle.kernel.specs.declared.table.Answer.{Answer}
-use Rattle.kernel.specs.Result.{resultKind, resultWord, resultFrom}
 use Rattle.kernel.specs.Numbers.{accepted, badRecord}
 use Rattle.lines.specs.Text.{decimal, signed}
 

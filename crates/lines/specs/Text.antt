@@ -6,7 +6,7 @@ use lib.ListN.{length}
 use lib.Seq.{sets}
 use lib.Dec.{ltb}
 use Rattle.queue.specs.Choose.{choose}
-use Rattle.kernel.specs.Table.{firstNegative}
+use Rattle.task.specs.Task.{firstNegative}
 
 -- A text stored from a place on, and the place behind it. What does not fit is cut at the buffer's end.
 pub record Appended (before : List ℕ) (at : ℕ) (text : List ℕ) (after : List ℕ) (end : ℕ) : Type 0 where

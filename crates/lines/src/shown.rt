@@ -9,7 +9,7 @@ use crate::text::put_signed;
 use kernel::numbers::ACCEPTED;
 use kernel::numbers::BAD_RECORD;
 use kernel::table::Answer;
-use kernel::table::Outcome;
+use task::task::Outcome;
 
 // No line is longer than this.
 pub const LONGEST: usize = 60;

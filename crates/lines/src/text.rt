@@ -3,7 +3,7 @@
 ghost use mathlib.Core.Path.{_≡_};
 ghost use mathlib.Core.List.{List, [], _∷_};
 ghost use Rattle.lines.specs.Text.{Appended, digit, decimal, signed};
-use kernel::table::FIRST_NEGATIVE;
+use task::task::FIRST_NEGATIVE;
 
 pub(crate) fn put(out: &mut [u8], at: usize, byte: u8) -> usize
     ensures { λ r. ⌜ Appended (now (out .entry)) at (byte ∷ []) (now (out .exit)) r ⌝ }

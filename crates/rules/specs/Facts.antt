@@ -9,9 +9,10 @@ use Rattle.queue.specs.declared.Queue.{Queue}
 use Rattle.queue.specs.Choose.{choose}
 use Rattle.queue.specs.Rows.{rowAt}
 use Rattle.queue.specs.Facts.{RowsFacts}
-use Rattle.kernel.specs.declared.table.Task.{Task}
+use Rattle.task.specs.declared.task.Task.{Task}
+use Rattle.task.specs.Task.{priorities, events, noTask, awaited, isUsed, isActive, isReady, isSendBlocked, isEventBlocked}
 use Rattle.kernel.specs.declared.table.Table.{Table}
-use Rattle.kernel.specs.Table.{priorities, events, noTask, taskAt, readyRow, awaited, isUsed, isActive, isReady, isSendBlocked, isEventBlocked, activeSlot, usedSlots}
+use Rattle.kernel.specs.Table.{taskAt, readyRow, activeSlot, usedSlots}
 use Rattle.kernel.specs.Shape.{ShapedRows}
 use Rattle.rules.specs.Good.{goodParent, goodState, goodOutcome, isNothing, readyKey, sendersKey, waitsFor}
 

@@ -13,21 +13,21 @@ use crate::slots::rest_unused;
 use crate::slots::senders_key;
 use kernel::numbers::ACCEPTED;
 use kernel::numbers::BAD_PRIORITY;
-use kernel::parts::READY;
-use kernel::parts::RECEIVE_BLOCKED;
-use kernel::parts::state_code;
-use kernel::search::first_active;
-use kernel::search::used_slots;
-use kernel::table::EVENTS;
-use kernel::table::Outcome;
-use kernel::table::PRIORITIES;
-use kernel::table::SLOTS;
-use kernel::table::State;
 use kernel::table::Table;
-use kernel::table::Task;
 use queue::NO_ROW;
 use queue::Queue;
 use queue::wide;
+use task::parts::READY;
+use task::parts::RECEIVE_BLOCKED;
+use task::parts::state_code;
+use task::search::first_active;
+use task::search::used_slots;
+use task::task::EVENTS;
+use task::task::Outcome;
+use task::task::PRIORITIES;
+use task::task::SLOTS;
+use task::task::State;
+use task::task::Task;
 
 pub struct Checked {
     pub good: bool,

@@ -11,13 +11,13 @@ ghost use Rattle.step.specs.Step.{Stepped};
 use crate::areas::apply;
 use kernel::numbers::BAD_AREAS;
 use kernel::numbers::BAD_TABLE;
-use kernel::search::first_active;
-use kernel::table::AREA;
 use kernel::table::Decision;
 use kernel::table::Request;
-use kernel::table::SLOTS;
 use kernel::table::Table;
 use rules::check;
+use task::search::first_active;
+use task::task::AREA;
+use task::task::SLOTS;
 
 // A step of any table, any request and areas of any length.
 pub fn step(table: Table, r: Request, areas: &mut [u8]) -> Decision

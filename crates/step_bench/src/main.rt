@@ -7,13 +7,13 @@ use image::call::request_from;
 use image::stored::IMAGE;
 use image::stored::store;
 use kernel::numbers::ACCEPTED;
-use kernel::table::AREA;
-use kernel::table::SLOTS;
 use kernel::table::Table;
 use libc::STDIN_FILENO;
 use libc::STDOUT_FILENO;
 use rules::start;
 use step::proceed;
+use task::task::AREA;
+use task::task::SLOTS;
 
 // The first task's priority.
 const FIRST: u32 = 16;

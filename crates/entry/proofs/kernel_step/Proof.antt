@@ -7,9 +7,10 @@ use mathlib.Core.List.{List}
 use lib.ListN.{length}
 use borrow.Author.Needs.{needs}
 use Rattle.queue.specs.Row.{places}
+use Rattle.task.specs.Task.{areaBytes}
 use Rattle.kernel.specs.Numbers.{accepted, badAreas, badTable, badRecord, badImage}
 use Rattle.kernel.specs.declared.table.Decision.{Decision}
-use Rattle.kernel.specs.Table.{areaBytes, slots}
+use Rattle.kernel.specs.Table.{slots}
 use Rattle.kernel.specs.Decide.{decide}
 use Rattle.image.specs.declared.stored.Reading.{Reading}
 use Rattle.image.specs.Record.{recordLength}

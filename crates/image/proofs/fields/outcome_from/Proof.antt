@@ -3,7 +3,7 @@ use mathlib.Core.Path.{ap}
 use native.Mathlib.Omega.{arith}
 use borrow.Author.Tests.{lt-ltb, le-ltb, ne-eqb}
 use borrow.Author.Needs.{needs}
-use Rattle.kernel.specs.declared.table.Outcome.the-variants.{Fault}
+use Rattle.task.specs.declared.task.Outcome.the-variants.{Fault}
 use Rattle.image.proofs.fields.outcome_from.Statement.{statement}
 use Rattle.image.proofs.fields.outcome_from.Tie as tie
 

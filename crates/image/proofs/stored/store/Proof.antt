@@ -9,7 +9,8 @@ use lib.ListN.{length, drop}
 use borrow.Author.Tests.{eq-eqb, ne-eqb}
 use borrow.Author.Needs.{needs}
 use Rattle.queue.specs.Row.{places}
-use Rattle.kernel.specs.Table.{slots, taskAt, stateCode}
+use Rattle.task.specs.Task.{stateCode}
+use Rattle.kernel.specs.Table.{slots, taskAt}
 use Rattle.kernel.proofs.Owned.{owned-shaped}
 use Rattle.image.specs.Bytes.{inOrder}
 use Rattle.image.specs.Record.{recordLength, standsAt, fields, recordOf}

@@ -3,7 +3,7 @@ use Prim.Native.Nat.{ℕ}
 use mathlib.Core.Path.{_≡_, ap}
 use native.Mathlib.Omega.{arith}
 use borrow.Author.Needs.{needs}
-use Rattle.kernel.specs.Result.{negated}
+use Rattle.task.specs.Result.{negated}
 use Rattle.lines.specs.Text.{signed}
 use Rattle.lines.specs.Line.{outcomeText}
 use Rattle.lines.proofs.Joined.{then, known-as}

@@ -2,7 +2,7 @@
 use Prim.Native.Nat.{ℕ}
 use borrow.Author.Tests.{lt-ltb, le-ltb}
 use native.Mathlib.Omega.{arith}
-use Rattle.kernel.specs.Table.{firstNegative}
+use Rattle.task.specs.Task.{firstNegative}
 use borrow.Author.Needs.{needs}
 use Rattle.lines.proofs.Joined.{then}
 use Rattle.lines.specs.Text.{signed}

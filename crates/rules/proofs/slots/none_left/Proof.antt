@@ -6,7 +6,7 @@ use lib.ListN.{getD}
 use lib.Dec.{eqb}
 use borrow.Author.Needs.{needs}
 use Rattle.queue.specs.Choose.{allBelow}
-use Rattle.kernel.specs.Table.{events}
+use Rattle.task.specs.Task.{events}
 use Rattle.queue.proofs.Below.{all-more}
 use Rattle.rules.proofs.slots.none_left.Statement.{statement}
 use Rattle.rules.proofs.slots.none_left.Tie as tie

@@ -11,8 +11,8 @@ use borrow.Author.Needs.{needs}
 use Rattle.queue.specs.Choose.{allBelow}
 use Rattle.queue.specs.Row.{places}
 use Rattle.queue.proofs.Below.{all-more, below-all}
-use Rattle.kernel.specs.declared.table.Task.{Task}
-use Rattle.kernel.specs.Table.{noTask}
+use Rattle.task.specs.declared.task.Task.{Task}
+use Rattle.task.specs.Task.{noTask}
 use Rattle.rules.specs.Good.{goodUnused}
 use Rattle.rules.proofs.slots.rest_unused.Statement.{statement}
 use Rattle.rules.proofs.slots.rest_unused.Tie as tie

@@ -2,7 +2,8 @@
 use native.Mathlib.Omega.{arith}
 use borrow.Author.Needs.{needs}
 use borrow.Author.Tests.{le-leb, lt-leb, eq-eqb, ne-eqb}
-use Rattle.kernel.specs.Table.{events, waiterAt}
+use Rattle.task.specs.Task.{events}
+use Rattle.kernel.specs.Table.{waiterAt}
 use Rattle.kernel.specs.Kinds.{awaitEvent}
 use Rattle.kernel.proofs.table.Table.await_event.Statement.{statement}
 use Rattle.kernel.proofs.table.Table.await_event.Tie as tie

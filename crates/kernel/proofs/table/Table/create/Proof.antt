@@ -5,7 +5,8 @@ use lib.ListN.{length}
 use borrow.Author.Needs.{needs}
 use borrow.Author.Tests.{le-leb, lt-leb}
 use Rattle.queue.specs.Row.{places}
-use Rattle.kernel.specs.Table.{priorities, usedSlots}
+use Rattle.task.specs.Task.{priorities}
+use Rattle.kernel.specs.Table.{usedSlots}
 use Rattle.kernel.specs.Kinds.{create}
 use Rattle.kernel.proofs.Owned.{owned-shaped}
 use Rattle.kernel.proofs.table.Table.create.Statement.{statement}

@@ -10,8 +10,9 @@ use lib.Dec.{eqb}
 use borrow.Author.Needs.{needs}
 use borrow.Author.Tests.{ne-eqb}
 use Rattle.queue.specs.Row.{places}
+use Rattle.task.specs.Task.{noTask}
 use Rattle.kernel.specs.Moves.{joinedTid, joined}
-use Rattle.kernel.specs.Table.{noTask, taskAt}
+use Rattle.kernel.specs.Table.{taskAt}
 use Rattle.kernel.proofs.Owned.{owned-shaped}
 use Rattle.kernel.proofs.table.Table.joined.Statement.{statement}
 use Rattle.kernel.proofs.table.Table.joined.Tie as tie

@@ -8,7 +8,8 @@ use lib.Seq.{set-out}
 use borrow.Author.Needs.{needs}
 use borrow.Author.Tests.{lt-ltb, le-ltb}
 use Rattle.queue.specs.Row.{places, placeAt}
-use Rattle.kernel.specs.Table.{noTask, sendersRow, goodBuffer}
+use Rattle.task.specs.Task.{noTask, goodBuffer}
+use Rattle.kernel.specs.Table.{sendersRow}
 use Rattle.kernel.specs.Moves.{received}
 use Rattle.kernel.specs.Kinds.{receive}
 use Rattle.kernel.proofs.Owned.{owned-shaped}

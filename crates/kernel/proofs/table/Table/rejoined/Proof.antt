@@ -9,7 +9,8 @@ use borrow.Author.Needs.{needs}
 use borrow.Author.Tests.{eq-eqb, ne-eqb}
 use Rattle.queue.specs.Rows.{noRow}
 use Rattle.queue.specs.Row.{places}
-use Rattle.kernel.specs.Table.{isReady, taskAt, readyRow}
+use Rattle.task.specs.Task.{isReady}
+use Rattle.kernel.specs.Table.{taskAt, readyRow}
 use Rattle.kernel.specs.Shape.{Shaped}
 use Rattle.kernel.proofs.Owned.{owned-shaped}
 use Rattle.kernel.proofs.Rejoin.{caller-joins, caller-passes, caller-stays, nobody-joins, pushed-some}

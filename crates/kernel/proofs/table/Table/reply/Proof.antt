@@ -8,10 +8,10 @@ use lib.ListN.{length, List·getD-eq-default}
 use borrow.Author.Needs.{needs}
 use borrow.Author.Tests.{le-leb, lt-leb}
 use Rattle.queue.specs.Row.{places}
-use Rattle.kernel.specs.Table.{goodBuffer}
+use Rattle.task.specs.Task.{goodBuffer}
+use Rattle.task.proofs.States.{other-state}
 use Rattle.kernel.specs.Kinds.{reply, alive}
 use Rattle.kernel.proofs.Owned.{owned-shaped}
-use Rattle.kernel.proofs.States.{other-state}
 use Rattle.kernel.proofs.table.Table.reply.Statement.{statement}
 use Rattle.kernel.proofs.table.Table.reply.Tie as tie
 

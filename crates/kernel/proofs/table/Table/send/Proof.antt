@@ -9,11 +9,11 @@ use lib.Dec.{eqb}
 use borrow.Author.Needs.{needs}
 use borrow.Author.Tests.{le-leb, lt-leb, eq-eqb, ne-eqb}
 use Rattle.queue.specs.Row.{places}
+use Rattle.task.specs.Task.{goodBuffer}
+use Rattle.task.proofs.States.{other-state}
 use Rattle.kernel.specs.Kinds.{send, alive}
-use Rattle.kernel.specs.Table.{goodBuffer}
 use Rattle.kernel.specs.Moves.{queued}
 use Rattle.kernel.proofs.Owned.{owned-shaped}
-use Rattle.kernel.proofs.States.{other-state}
 use Rattle.kernel.proofs.table.Table.send.Statement.{statement}
 use Rattle.kernel.proofs.table.Table.send.Tie as tie
 

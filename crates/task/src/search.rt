@@ -5,12 +5,12 @@ ghost use lib.Dec.{eqb};
 ghost use lib.ListN.{getD};
 ghost use Rattle.queue.specs.Choose.{firstBelow};
 ghost use Rattle.queue.specs.Row.{places};
-ghost use Rattle.kernel.specs.Table.{noTask, stateCode, isActive, isUsed};
+ghost use Rattle.task.specs.Task.{noTask, stateCode, isActive, isUsed};
 use crate::parts::ACTIVE;
 use crate::parts::UNUSED;
 use crate::parts::state_code;
-use crate::table::SLOTS;
-use crate::table::Task;
+use crate::task::SLOTS;
+use crate::task::Task;
 
 // The first slot whose state has the number; SLOTS where none has.
 fn first_with(tasks: [Task; SLOTS], code: u8) -> usize

@@ -11,10 +11,10 @@ use borrow.Author.Needs.{needs}
 use borrow.Author.Tests.{eq-eqb, ne-eqb}
 use Rattle.queue.specs.Row.{places}
 use Rattle.queue.proofs.Below.{first-ends}
-use Rattle.kernel.specs.declared.table.Task.{Task}
-use Rattle.kernel.specs.Table.{noTask, stateCode}
-use Rattle.kernel.proofs.search.first_with.Statement.{statement}
-use Rattle.kernel.proofs.search.first_with.Tie as tie
+use Rattle.task.specs.declared.task.Task.{Task}
+use Rattle.task.specs.Task.{noTask, stateCode}
+use Rattle.task.proofs.search.first_with.Statement.{statement}
+use Rattle.task.proofs.search.first_with.Tie as tie
 
 abbrev coded : ℕ → List Task → ℕ → Bool
 coded code tasks s = eqb (stateCode (getD tasks s noTask .state)) code

@@ -1,0 +1,4 @@
+pub mod Tests
+pub mod States
+mod Lent
+mod Determined
