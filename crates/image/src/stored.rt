@@ -30,7 +30,7 @@ ghost use Rattle.queue.specs.Placed.{placedRow};
 ghost use Rattle.rules.specs.Fresh.{unusedTable};
 ghost use Rattle.rules.specs.Good.{readyKey, sendersKey};
 ghost use Rattle.image.specs.Record.{recordLength};
-ghost use Rattle.image.specs.Image.{waitersKey, reading, givenImage, readImage, stored, writeVerdict, written};
+ghost use Rattle.image.specs.Image.{waitersKey, PlacesIn, reading, givenImage, readImage, stored, writeVerdict, written};
 ghost use Rattle.image.specs.Exact.{decodedOf};
 
 // How long an image is.
@@ -156,6 +156,22 @@ fn decode(bytes: &[u8]) -> Decoded
         waiters,
     };
     Decoded { table, exact }
+}
+
+// The place of each slot, as its record has it; 0 where the bytes have no such record.
+fn places_in(bytes: &[u8]) -> [u8; SLOTS]
+    ensures { λ r. ⌜ PlacesIn places (now (bytes .entry)) r ⌝ }
+{
+    let mut at = [0; SLOTS];
+    let mut s = 0;
+    while s < SLOTS {
+        let p = s * RECORD + PLACE;
+        if p < bytes.len() {
+            at[s] = bytes[p];
+        }
+        s += 1;
+    }
+    at
 }
 
 // A record copied into an image.
