@@ -27,7 +27,7 @@ ghost use Rattle.image.specs.Exact.{sameParts, sameTold, exactRest, entr
 // A record's length, and where its fields start. The spare byte is 0.
 pub(crate) const RECORD: usize = 20;
 
-const STATE: usize = 0;
+pub(crate) const STATE: usize = 0;
 
 const PRIORITY: usize = 1;
 

@@ -1,6 +1,7 @@
 // A table as an image: a record for each slot, one after another.
 use crate::fields::PLACE;
 use crate::fields::RECORD;
+use crate::fields::STATE;
 use crate::fields::entry_of;
 use crate::fields::fields_of;
 use crate::fields::no_task;
@@ -117,44 +118,50 @@ struct Decoded {
     exact: bool,
 }
 
-// One pass over the records, with the table's parts apart, so that none of them is copied on the way.
+// One pass over the records, into one table in place. Bytes of another length have none.
 fn decode(bytes: &[u8]) -> Decoded
-    requires { ⌜ length (now bytes) ≡ places * recordLength ⌝ }
     ensures { λ r. ⌜ r ≡ decodedOf places (now (bytes .entry)) ⌝ }
 {
-    let mut tasks = [no_task(); SLOTS];
-    let mut ready = [Queue::empty(); PRIORITIES];
-    let mut senders = [Queue::empty(); SLOTS];
-    let mut waiters = [0u8; EVENTS];
+    let count = if bytes.len() == IMAGE { SLOTS } else { 0 };
+    let mut table = Table {
+        tasks: [no_task(); SLOTS],
+        ready: [Queue::empty(); PRIORITIES],
+        senders: [Queue::empty(); SLOTS],
+        waiters: [0; EVENTS],
+    };
     let mut exact = true;
     let mut s = 0;
-    while s < SLOTS {
+    while s < count {
         let at = s * RECORD;
         let end = at + RECORD;
         let r = &bytes[at..end];
         let entry = entry_of(r);
+        exact &= entry.exact;
+        // Nothing of an unused slot is stored: its task is there already, and it stands in no row.
+        if r[STATE] == UNUSED {
+            s += 1;
+            continue;
+        }
         let x = entry.task;
         let tid = (s + 1) as u8;
         let place = r[PLACE];
-        exact &= entry.exact;
-        tasks[s] = x;
+        table.tasks[s] = x;
         let k = ready_key(x);
         if k < PRIORITIES {
-            ready[k] = placed_row(ready[k], place, tid);
+            let q = table.ready[k];
+            table.ready[k] = placed_row(q, place, tid);
         }
         let g = senders_key(x);
         if g < SLOTS {
-            senders[g] = placed_row(senders[g], place, tid);
+            let q = table.senders[g];
+            table.senders[g] = placed_row(q, place, tid);
         }
-        put(&mut waiters, waiters_key(x), tid);
+        let e = waiters_key(x);
+        if e < EVENTS {
+            table.waiters[e] = tid;
+        }
         s += 1;
     }
-    let table = Table {
-        tasks,
-        ready,
-        senders,
-        waiters,
-    };
     Decoded { table, exact }
 }
 
@@ -246,20 +253,20 @@ fn refused(verdict: u8) -> Reading
     }
 }
 
-// The table that the bytes give, with the verdict on them. Whoever goes on only where they are accepted needs no table
-// without tasks, and is spared making one.
+// The table that the bytes give, with the verdict on them. It has one way out, and makes no table of its own where it
+// refuses, so that the decoded one is handed on in place.
 pub fn given(bytes: &[u8]) -> Reading
     ensures { λ r. ⌜ r ≡ givenImage places (now (bytes .entry)) ⌝ }
 {
-    if bytes.len() != IMAGE {
-        return refused(BAD_IMAGE);
-    }
     let decoded = decode(bytes);
     let table = decoded.table;
     let checked = rules::check(table);
     let mut verdict = BAD_TABLE;
     if checked.good & decoded.exact {
         verdict = ACCEPTED;
+    }
+    if bytes.len() != IMAGE {
+        verdict = BAD_IMAGE;
     }
     Reading {
         table,
