@@ -22,6 +22,7 @@ use Rattle.kernel.specs.declared.table.Table.{Table}
 use Rattle.kernel.specs.Table.{taskAt, slots, usedSlots}
 use Rattle.rules.specs.Good.{goodTable}
 use Rattle.rules.specs.Facts.{UsedFacts, Good}
+use Rattle.rules.proofs.Fresh.{all-same}
 use Rattle.rules.proofs.Good.{good-facts}
 use Rattle.rules.proofs.Tasks.{state-facts}
 use Rattle.image.specs.Bytes.{inOrder, recordAt, same}
@@ -51,15 +52,9 @@ record Kept (place : ℕ → ℕ) (rows : List Queue) : Type 0 where
 kept-none : (place : ℕ → ℕ) (m n : ℕ) → Kept place (replicate m (emptyRow n))
 kept-none place m n = record { at = λ k p s e. absurd (omega (arith, empty k p, e)) }
   where
-    blank : (p : ℕ) → _≡_ {A = ℕ} (getD (replicate n 0) p 0) 0
-    blank p = elim (decLt p n) [
-      | yes l ↦ getD-replicate n p 0 0 l
-      | no g ↦ List·getD-eq-default (replicate n 0) 0 {n = p} (omega (arith, length-replicate {A = ℕ} n 0))
-    ]
-
     empty : (k p : ℕ) → placeAt (rowAt (replicate m (emptyRow n)) k) p ≡ 0
     empty k p = elim (decLt k m) [
-      | yes l ↦ rw (getD-replicate m k (emptyRow n) noRow l) (blank p)
+      | yes l ↦ rw (getD-replicate m k (emptyRow n) noRow l) (all-same n p 0)
       | no g ↦ rw (List·getD-eq-default (replicate m (emptyRow n)) noRow {n = k} (omega (arith, length-replicate m (emptyRow n))))
     ]
 
@@ -112,7 +107,7 @@ module _ (n : ℕ) (bytes : List ℕ) where
   kept-senders zero = kept-none place n n
   kept-senders (suc m) = kept-more (kept-senders m) _ m
 
-  task-read : (m s : ℕ) → m ≤ n → s < m → taskAt (tableUpTo n bytes m) s ≡ taskFrom (recordAt recordLength bytes s)
+  pub task-read : (m s : ℕ) → m ≤ n → s < m → taskAt (tableUpTo n bytes m) s ≡ taskFrom (recordAt recordLength bytes s)
   unfolding tableUpTo withStored
   task-read zero s h l = absurd (omega arith)
   task-read (suc m) s h l =

@@ -1,6 +1,7 @@
 // A table as an image: a record for each slot, one after another.
 use crate::fields::PLACE;
 use crate::fields::RECORD;
+use crate::fields::STATE;
 use crate::fields::entry_of;
 use crate::fields::fields_of;
 use crate::fields::no_task;
@@ -9,18 +10,16 @@ use kernel::numbers::BAD_IMAGE;
 use kernel::numbers::BAD_TABLE;
 use kernel::table::Table;
 use queue::Queue;
-use queue::slot;
 use queue::wide;
-use task::parts::EVENT_BLOCKED;
-use task::parts::READY;
-use task::parts::RECEIVE_BLOCKED;
+use rules::keys::event_key;
+use rules::keys::ready_key;
+use rules::keys::senders_key;
+use rules::placed::check_placed;
 use task::parts::UNUSED;
-use task::parts::awaited;
 use task::parts::state_code;
 use task::task::EVENTS;
 use task::task::PRIORITIES;
 use task::task::SLOTS;
-use task::task::Task;
 ghost use mathlib.Core.Path.{_≡_};
 ghost use Prim.Native.Nat.{_+_, _*_, _≤_, _<_, min, max};
 ghost use lib.ListN.{length, set};
@@ -28,9 +27,8 @@ ghost use lib.Seq.{paste};
 ghost use Rattle.queue.specs.Row.{places};
 ghost use Rattle.queue.specs.Placed.{placedRow};
 ghost use Rattle.rules.specs.Fresh.{unusedTable};
-ghost use Rattle.rules.specs.Good.{readyKey, sendersKey};
 ghost use Rattle.image.specs.Record.{recordLength};
-ghost use Rattle.image.specs.Image.{waitersKey, reading, givenImage, readImage, stored, writeVerdict, written};
+ghost use Rattle.image.specs.Image.{PlacesIn, reading, givenImage, readImage, stored, writeVerdict, written};
 ghost use Rattle.image.specs.Exact.{decodedOf};
 
 // How long an image is.
@@ -42,40 +40,6 @@ pub struct Reading {
     pub table: Table,
     pub active: usize,
     pub verdict: u8,
-}
-
-// The row or the event that a task belongs to, past the last where there is none.
-fn ready_key(x: Task) -> usize
-    ensures { λ r. ⌜ r ≡ readyKey x ⌝ }
-{
-    let state = x.state;
-    if state_code(state) == READY {
-        x.priority as usize
-    } else {
-        PRIORITIES
-    }
-}
-
-fn senders_key(x: Task) -> usize
-    ensures { λ r. ⌜ r ≡ sendersKey places x ⌝ }
-{
-    let state = x.state;
-    if state_code(state) == RECEIVE_BLOCKED {
-        slot(awaited(state))
-    } else {
-        SLOTS
-    }
-}
-
-fn waiters_key(x: Task) -> usize
-    ensures { λ r. ⌜ r ≡ waitersKey x ⌝ }
-{
-    let state = x.state;
-    if state_code(state) == EVENT_BLOCKED {
-        wide(awaited(state))
-    } else {
-        EVENTS
-    }
 }
 
 // A byte stored; past the end nothing is.
@@ -117,45 +81,67 @@ struct Decoded {
     exact: bool,
 }
 
-// One pass over the records, with the table's parts apart, so that none of them is copied on the way.
+// One pass over the records, into one table in place. Bytes of another length have none.
 fn decode(bytes: &[u8]) -> Decoded
-    requires { ⌜ length (now bytes) ≡ places * recordLength ⌝ }
     ensures { λ r. ⌜ r ≡ decodedOf places (now (bytes .entry)) ⌝ }
 {
-    let mut tasks = [no_task(); SLOTS];
-    let mut ready = [Queue::empty(); PRIORITIES];
-    let mut senders = [Queue::empty(); SLOTS];
-    let mut waiters = [0u8; EVENTS];
+    let count = if bytes.len() == IMAGE { SLOTS } else { 0 };
+    let mut table = Table {
+        tasks: [no_task(); SLOTS],
+        ready: [Queue::empty(); PRIORITIES],
+        senders: [Queue::empty(); SLOTS],
+        waiters: [0; EVENTS],
+    };
     let mut exact = true;
     let mut s = 0;
-    while s < SLOTS {
+    while s < count {
         let at = s * RECORD;
         let end = at + RECORD;
         let r = &bytes[at..end];
         let entry = entry_of(r);
+        exact &= entry.exact;
+        // Nothing of an unused slot is stored: its task is there already, and it stands in no row.
+        if r[STATE] == UNUSED {
+            s += 1;
+            continue;
+        }
         let x = entry.task;
         let tid = (s + 1) as u8;
         let place = r[PLACE];
-        exact &= entry.exact;
-        tasks[s] = x;
+        table.tasks[s] = x;
         let k = ready_key(x);
         if k < PRIORITIES {
-            ready[k] = placed_row(ready[k], place, tid);
+            let q = table.ready[k];
+            table.ready[k] = placed_row(q, place, tid);
         }
         let g = senders_key(x);
         if g < SLOTS {
-            senders[g] = placed_row(senders[g], place, tid);
+            let q = table.senders[g];
+            table.senders[g] = placed_row(q, place, tid);
         }
-        put(&mut waiters, waiters_key(x), tid);
+        let e = event_key(x);
+        if e < EVENTS {
+            table.waiters[e] = tid;
+        }
         s += 1;
     }
-    let table = Table {
-        tasks,
-        ready,
-        senders,
-        waiters,
-    };
     Decoded { table, exact }
+}
+
+// The place of each slot, as its record has it; 0 where the bytes have no such record.
+fn places_in(bytes: &[u8]) -> [u8; SLOTS]
+    ensures { λ r. ⌜ PlacesIn places (now (bytes .entry)) r ⌝ }
+{
+    let mut at = [0; SLOTS];
+    let mut s = 0;
+    while s < SLOTS {
+        let p = s * RECORD + PLACE;
+        if p < bytes.len() {
+            at[s] = bytes[p];
+        }
+        s += 1;
+    }
+    at
 }
 
 // A record copied into an image.
@@ -230,20 +216,20 @@ fn refused(verdict: u8) -> Reading
     }
 }
 
-// The table that the bytes give, with the verdict on them. Whoever goes on only where they are accepted needs no table
-// without tasks, and is spared making one.
+// The table that the bytes give, with the verdict on them. It has one way out, and makes no table of its own where it
+// refuses, so that the decoded one is handed on in place.
 pub fn given(bytes: &[u8]) -> Reading
     ensures { λ r. ⌜ r ≡ givenImage places (now (bytes .entry)) ⌝ }
 {
-    if bytes.len() != IMAGE {
-        return refused(BAD_IMAGE);
-    }
     let decoded = decode(bytes);
     let table = decoded.table;
-    let checked = rules::check(table);
+    let checked = check_placed(table, places_in(bytes));
     let mut verdict = BAD_TABLE;
     if checked.good & decoded.exact {
         verdict = ACCEPTED;
+    }
+    if bytes.len() != IMAGE {
+        verdict = BAD_IMAGE;
     }
     Reading {
         table,

@@ -1,38 +1,71 @@
--- `image::stored::decode` meets its contract. The loop's invariant: the parts are those of the table after the first s records, and those are exact or not.
+-- `image::stored::decode` meets its contract. The loop's invariant: the table is that of the first s records, and those are exact or not.
 use Prim.Native.Nat.{ℕ, _+_, _-_, _*_, _≤_}
 use mathlib.Core.Path.{sym, refl, ap, _∙_, _≡_}
 use mathlib.Core.Logic.{⊎-elim}
+use mathlib.Core.Bool.{_&&_}
 use mathlib.Core.List.{List}
 use native.Mathlib.Omega.{arith}
-use lib.ListN.{take, drop}
+use lib.ListN.{length, take, drop}
 use borrow.Author.Needs.{needs}
+use borrow.Author.Tests.{eq-eqb, ne-eqb}
 use Rattle.queue.specs.Choose.{allBelow}
 use Rattle.queue.specs.Row.{places}
+use Rattle.queue.specs.Placed.{placedRow}
 use Rattle.queue.proofs.Below.{all-more}
 use Rattle.kernel.specs.declared.table.Table.{Table}
+use Rattle.kernel.specs.Table.{readyRow, sendersRow, withTask, withReady, withSenders, withWaiter}
 use Rattle.kernel.specs.Shape.{Shaped}
 use Rattle.image.specs.declared.fields.Entry.{Entry}
 use Rattle.image.specs.Bytes.{recordAt}
-use Rattle.image.specs.Record.{recordLength}
+use Rattle.image.specs.Record.{recordLength, placeFrom}
 use Rattle.image.specs.Image.{tableUpTo}
-use Rattle.image.specs.Exact.{exactUpTo}
+use Rattle.image.specs.Exact.{exactUpTo, recordsIn}
 use Rattle.image.proofs.Shape.{table-shaped}
-use Rattle.image.proofs.Loops.{table-more, row-placed, none-placed}
+use Rattle.image.proofs.Loops.{none-ready, none-senders, none-waiter, table-more, table-same}
 use Rattle.image.proofs.stored.decode.Statement.{statement}
 use Rattle.image.proofs.stored.decode.Tie as tie
 
 abbrev Inv-loop : tie.InvT-loop
-Inv-loop bytes tasks₀ ready₀ senders₀ waiters₀ exact₀ s₀ tasks ready senders waiters exact s = (s ≤ places)
-    × (record { tasks = tasks; ready = ready; senders = senders; waiters = waiters } ≡ tableUpTo places bytes s)
+Inv-loop bytes count table₀ exact₀ s₀ table exact s = (s ≤ count) × (count ≤ places)
+    × (table ≡ tableUpTo places bytes s)
     × (exact ≡ exactUpTo bytes s)
 
 abbrev μ-loop : tie.MeasureT-loop
-μ-loop bytes tasks₀ ready₀ senders₀ waiters₀ exact₀ s₀ tasks ready senders waiters exact s = places - s
+μ-loop bytes count table₀ exact₀ s₀ table exact s = count - s
 
--- the parts have the shape of a table
-shaped : (c : tie.At-loop Inv-loop μ-loop)
-    → Shaped places (record { tasks = c .loop .tasks; ready = c .loop .ready; senders = c .loop .senders; waiters = c .loop .waiters })
-shaped c = rw (c .loop .inv .1) (table-shaped places _ (c .loop .s))
+-- every record is counted, or none
+counted : (c : tie.At-loop Inv-loop μ-loop) → let joined = c .before .before .before .before in
+    joined .if1 .count ≡ recordsIn places (joined .before .before .args .bytes .now)
+counted c =
+    let joined = c .before .before .before .before in
+    let len : ℕ = length (joined .before .before .args .bytes .now) in
+    ⊎-elim (λ w. rw (w .1, eq-eqb len (places * recordLength) (w .0 .taken)))
+    (λ w. rw (w .1, ne-eqb len (places * recordLength) (w .0 .left)))
+    (joined .if1 .came)
+
+-- where one is read, all are there
+whole : (c : tie.In-loop Inv-loop μ-loop) → let joined = c .before .before .before .before .before in
+    length (joined .before .before .args .bytes .now) ≡ places * recordLength
+whole c =
+    let joined = c .before .before .before .before .before in
+    ⊎-elim (λ w. w .0 .taken) (λ w. absurd (omega (arith, w .1))) (joined .if1 .came)
+
+-- the part that is lent is the record
+abbrev lent : List ℕ → ℕ → List ℕ
+lent bytes s = take (s * recordLength + recordLength - s * recordLength) (drop (s * recordLength) bytes)
+
+part : (bytes : List ℕ) (s : ℕ) → lent bytes s ≡ recordAt recordLength bytes s
+part bytes s =
+    let size : s * recordLength + recordLength - s * recordLength ≡ recordLength = omega arith in
+    ap (λ (k : ℕ). take k (drop (s * recordLength) bytes)) size
+
+-- the records up to this one are exact or not
+exact-more : (c : tie.After-entry-of Inv-loop μ-loop) → let at = c .before .before .before in
+    (at .loop .exact && c .entry-of .result .exact)
+    ≡ exactUpTo (at .before .before .before .before .before .before .args .bytes .now) (at .loop .s + 1)
+exact-more c =
+    let at = c .before .before .before in
+    rw (all-more, at .loop .inv .3, ap (λ (e : Entry). e .exact) (c .entry-of .ensures), part _ (at .loop .s))
 
 no-task-requires : tie.Need-no-task-requires Inv-loop μ-loop
 no-task-requires c κs = search needs
@@ -45,7 +78,7 @@ empty-requires-2 c κs = search needs
 
 loop-holds : tie.Need-loop-holds Inv-loop μ-loop
 unfolding tableUpTo allBelow
-loop-holds c = (omega arith, rw (c .before .before .no-task .ensures, c .before .empty .ensures, c .empty2 .ensures), refl)
+loop-holds c = (omega arith, ⊎-elim (λ w. omega (arith, w .1)) (λ w. omega (arith, w .1)) (c .before .before .before .if1 .came), rw (c .before .before .no-task .ensures, c .before .empty .ensures, c .empty2 .ensures), refl)
 
 mul-at : tie.Need-mul-at Inv-loop μ-loop
 mul-at c = search needs
@@ -60,10 +93,25 @@ part-r-start : tie.Need-part-r-start Inv-loop μ-loop
 part-r-start c = search needs
 
 part-r-end : tie.Need-part-r-end Inv-loop μ-loop
-part-r-end c = search needs
+part-r-end c = omega (arith, whole c)
 
 entry-of-requires : tie.Need-entry-of-requires Inv-loop μ-loop
 entry-of-requires c κs = search needs
+
+shared-slice-read-if2 : tie.Need-shared-slice-read-if2 Inv-loop μ-loop
+shared-slice-read-if2 c = search needs
+
+add-s : tie.Need-add-s Inv-loop μ-loop
+add-s c = search needs
+
+loop-less : tie.Need-loop-less Inv-loop μ-loop
+loop-less c = search needs
+
+loop-again : tie.Need-loop-again Inv-loop μ-loop
+loop-again c = let entry = c .before .before .before in
+    let inside = entry .before .before in
+    let at = inside .before in
+    (omega arith, at .loop .inv .1, table-same places _ _ (at .loop .s) (at .loop .table) (part _ (at .loop .s)) (at .loop .inv .2) (c .if2 .taken), exact-more entry)
 
 add-tid : tie.Need-add-tid Inv-loop μ-loop
 add-tid c = search needs
@@ -74,100 +122,109 @@ cast-tid c = search needs
 shared-slice-read-place : tie.Need-shared-slice-read-place Inv-loop μ-loop
 shared-slice-read-place c = search needs
 
-mul-tasks : tie.Need-mul-tasks Inv-loop μ-loop
-mul-tasks c = search needs
+mul-x : tie.Need-mul-x Inv-loop μ-loop
+mul-x c = search needs
 
-array-set-from-tasks : tie.Need-array-set-from-tasks Inv-loop μ-loop
-array-set-from-tasks c = search needs
+element-set-from-x : tie.Need-element-set-from-x Inv-loop μ-loop
+element-set-from-x c = search needs
 
 ready-key-requires : tie.Need-ready-key-requires Inv-loop μ-loop
 ready-key-requires c κs = search needs
 
-mul-placed-row : tie.Need-mul-placed-row Inv-loop μ-loop
-mul-placed-row c = search needs
+mul-q : tie.Need-mul-q Inv-loop μ-loop
+mul-q c = search needs
 
-array-copy-out-placed-row : tie.Need-array-copy-out-placed-row Inv-loop μ-loop
-array-copy-out-placed-row c = search needs
+element-copy-out-q : tie.Need-element-copy-out-q Inv-loop μ-loop
+element-copy-out-q c = search needs
 
 placed-row-requires : tie.Need-placed-row-requires Inv-loop μ-loop
 placed-row-requires c κs = search needs
 
-mul-ready : tie.Need-mul-ready Inv-loop μ-loop
-mul-ready c = search needs
+mul-t37 : tie.Need-mul-t37 Inv-loop μ-loop
+mul-t37 c = search needs
 
-array-set-from-ready : tie.Need-array-set-from-ready Inv-loop μ-loop
-array-set-from-ready c = search needs
+element-set-from-table : tie.Need-element-set-from-table Inv-loop μ-loop
+element-set-from-table c = search needs
 
 senders-key-requires : tie.Need-senders-key-requires Inv-loop μ-loop
 senders-key-requires c κs = search needs
 
-mul-placed-row-2 : tie.Need-mul-placed-row-2 Inv-loop μ-loop
-mul-placed-row-2 c = search needs
+mul-q-2 : tie.Need-mul-q-2 Inv-loop μ-loop
+mul-q-2 c = search needs
 
-array-copy-out-placed-row-2 : tie.Need-array-copy-out-placed-row-2 Inv-loop μ-loop
-array-copy-out-placed-row-2 c = search needs
+element-copy-out-q-2 : tie.Need-element-copy-out-q-2 Inv-loop μ-loop
+element-copy-out-q-2 c = search needs
 
 placed-row-requires-2 : tie.Need-placed-row-requires-2 Inv-loop μ-loop
 placed-row-requires-2 c κs = search needs
 
-mul-senders : tie.Need-mul-senders Inv-loop μ-loop
-mul-senders c = search needs
+mul-t43 : tie.Need-mul-t43 Inv-loop μ-loop
+mul-t43 c = search needs
 
-array-set-from-senders : tie.Need-array-set-from-senders Inv-loop μ-loop
-array-set-from-senders c = search needs
+element-set-from-table-2 : tie.Need-element-set-from-table-2 Inv-loop μ-loop
+element-set-from-table-2 c = search needs
 
-slice-aggregate-put : tie.Need-slice-aggregate-put Inv-loop μ-loop
-slice-aggregate-put c = sym (shaped (c .before .before .before .before .before .before .before .before .before .before .before) .waiters)
+event-key-requires : tie.Need-event-key-requires Inv-loop μ-loop
+event-key-requires c κs = search needs
 
-waiters-key-requires : tie.Need-waiters-key-requires Inv-loop μ-loop
-waiters-key-requires c κs = search needs
+element-write-table : tie.Need-element-write-table Inv-loop μ-loop
+element-write-table c = search needs
 
-put-requires : tie.Need-put-requires Inv-loop μ-loop
-put-requires c κs = search needs
+add-s-2 : tie.Need-add-s-2 Inv-loop μ-loop
+add-s-2 c = search needs
 
-add-s : tie.Need-add-s Inv-loop μ-loop
-add-s c = search needs
+loop-less-2 : tie.Need-loop-less-2 Inv-loop μ-loop
+loop-less-2 c = search needs
 
-loop-less : tie.Need-loop-less Inv-loop μ-loop
-loop-less c = search needs
-
-loop-again : tie.Need-loop-again Inv-loop μ-loop
-loop-again c = let keyed = c .before .before in
-    let second = keyed .before .before in
+loop-again-2 : tie.Need-loop-again-2 Inv-loop μ-loop
+loop-again-2 c = let keyed = c .before in
+    let second = keyed .before in
     let first = second .before .before in
-    let entry = first .before .before .before .before .before in
+    let entry = first .before .before .before .before .before .before .before in
     let at = entry .before .before .before in
-    let bytes : List ℕ = at .before .before .before .before .before .args .bytes .now in
+    let bytes : List ℕ = at .before .before .before .before .before .before .args .bytes .now in
     let s : ℕ = at .loop .s in
-    let inv = at .loop .inv in
-    let t : Table = record { tasks = at .loop .tasks; ready = at .loop .ready; senders = at .loop .senders; waiters = at .loop .waiters } in
-    let shape = shaped at in
-    let part : take (s * recordLength + recordLength - s * recordLength) (drop (s * recordLength) bytes) ≡ recordAt recordLength bytes s =
-    let size : s * recordLength + recordLength - s * recordLength ≡ recordLength = omega arith in
-    ap (λ (k : ℕ). take k (drop (s * recordLength) bytes)) size in
+    let t : Table = at .loop .table in
+    let shape : Shaped places t = rw (at .loop .inv .2) (table-shaped places bytes s) in
+    let x = entry .entry-of .result .task in
+    let place : ℕ = placeFrom (lent bytes s) in
     let k : ℕ = first .before .ready-key .result in
-    let g : ℕ = second .before .senders-key .result in (
+    let g : ℕ = second .before .senders-key .result in
+    let e : ℕ = keyed .event-key .result in
+    let t₁ : Table = first .if3 .table in
+    let t₂ : Table = second .if4 .table in
+    let ready : t₁ ≡ withReady (withTask t s x) k (placedRow (readyRow t k) place (s + 1)) =
+    ⊎-elim (λ w. w .3 ∙ ap (withReady (withTask t s x) k) (w .2 .ensures))
+    (λ w. none-ready (withTask t s x) t₁ k _ (omega (arith, shape .ready .count, w .0 .left)) (w .1))
+    (first .if3 .came) in
+    let rows = ap (λ (v : Table). length (v .senders)) ready ∙ shape .senders .count in
+    let senders : t₂ ≡ withSenders t₁ g (placedRow (sendersRow t₁ g) place (s + 1)) =
+    ⊎-elim (λ w. w .3 ∙ ap (withSenders t₁ g) (w .2 .ensures))
+    (λ w. none-senders t₁ t₂ g _ (omega (arith, rows, w .0 .left)) (w .1))
+    (second .if4 .came) in
+    let events = ap (λ (v : Table). length (v .waiters)) senders ∙ ap (λ (v : Table). length (v .waiters)) ready ∙ shape .waiters in
+    let waiters : c .if5 .table ≡ withWaiter t₂ e (s + 1) =
+    ⊎-elim (λ w. w .1) (λ w. none-waiter t₂ (c .if5 .table) e _ (omega (arith, events, w .0 .left)) (w .1)) (c .if5 .came) in (
       omega arith,
-      table-more places bytes _ s t _ k g _ _ _ _ (shape .tasks) part (inv .1)
-          (ap (λ (e : Entry). e .task) (entry .entry-of .ensures))
+      at .loop .inv .1,
+      table-more places bytes _ s t (part bytes s) (at .loop .inv .2) t₁ t₂ (c .if5 .table) x k g e (shape .tasks)
+          (ap (λ (y : Entry). y .task) (entry .entry-of .ensures))
           (first .before .ready-key .ensures)
-          (⊎-elim (λ w. row-placed (t .ready) _ k _ _ _ (w .2 .ensures) (w .3))
-          (λ w. none-placed (t .ready) _ k _ _ (omega (arith, shape .ready .count, w .0 .left)) (w .1))
-          (first .if1 .came))
+          ready
           (second .before .senders-key .ensures)
-          (⊎-elim (λ w. row-placed (t .senders) _ g _ _ _ (w .2 .ensures) (w .3))
-          (λ w. none-placed (t .senders) _ g _ _ (omega (arith, shape .senders .count, w .0 .left)) (w .1))
-          (second .if2 .came))
-          (keyed .waiters-key .ensures)
-          (c .before .put .ensures),
-      rw (all-more, inv .2, ap (λ (e : Entry). e .exact) (entry .entry-of .ensures), part),
+          senders
+          (keyed .event-key .ensures)
+          waiters,
+      exact-more entry,
     )
 
 returns : tie.Need-returns Inv-loop μ-loop
-returns c = let end : c .before .loop .s ≡ places = omega arith in
-    let bytes : List ℕ = c .before .before .before .before .before .before .args .bytes .now in
-    let table = c .before .loop .inv .1 ∙ ap (tableUpTo places bytes) end in
-    let exact = c .before .loop .inv .2 ∙ ap (exactUpTo bytes) end in
+returns c = let at = c .before in
+    let bytes : List ℕ = at .before .before .before .before .before .before .args .bytes .now in
+    let all : at .loop .s ≡ at .before .before .before .before .if1 .count = omega arith in
+    let end = all ∙ counted at in
+    let table = at .loop .inv .2 ∙ ap (tableUpTo places bytes) end in
+    let exact = at .loop .inv .3 ∙ ap (exactUpTo bytes) end in
     λ i. record { table = table i; exact = exact i }
 
 pub decode-spec : {M : Type 1} → statement M
@@ -186,27 +243,30 @@ decode-spec =
     part-r-start
     part-r-end
     entry-of-requires
-    add-tid
-    cast-tid
-    shared-slice-read-place
-    mul-tasks
-    array-set-from-tasks
-    ready-key-requires
-    mul-placed-row
-    array-copy-out-placed-row
-    placed-row-requires
-    mul-ready
-    array-set-from-ready
-    senders-key-requires
-    mul-placed-row-2
-    array-copy-out-placed-row-2
-    placed-row-requires-2
-    mul-senders
-    array-set-from-senders
-    slice-aggregate-put
-    waiters-key-requires
-    put-requires
+    shared-slice-read-if2
     add-s
     loop-less
     loop-again
+    add-tid
+    cast-tid
+    shared-slice-read-place
+    mul-x
+    element-set-from-x
+    ready-key-requires
+    mul-q
+    element-copy-out-q
+    placed-row-requires
+    mul-t37
+    element-set-from-table
+    senders-key-requires
+    mul-q-2
+    element-copy-out-q-2
+    placed-row-requires-2
+    mul-t43
+    element-set-from-table-2
+    event-key-requires
+    element-write-table
+    add-s-2
+    loop-less-2
+    loop-again-2
     returns)
