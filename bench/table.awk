@@ -48,7 +48,7 @@ END {
     print ""
     head("The byte entry by part, each with what it calls")
     row("decode (`image::stored::decode`)", "apart-decode")
-    row("check (`rules::check`)", "apart-check")
+    row("check (`rules::placed::check_placed`)", "apart-check_placed")
     row("decide (`Table::decide_at`)", "apart-decide_at")
     row("areas (`step::areas::apply`)", "apart-apply")
     row("write (`image::stored::store`)", "apart-store")

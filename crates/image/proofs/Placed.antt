@@ -12,8 +12,7 @@ use Rattle.queue.specs.Placed.{placed, madeRows, madeNames}
 use Rattle.queue.proofs.Refilled.{zero-at}
 use Rattle.task.specs.declared.task.Task.{Task}
 use Rattle.task.specs.Task.{priorities, events}
-use Rattle.kernel.specs.declared.table.Table.{Table}
-use Rattle.kernel.specs.Table.{slots, taskAt}
+use Rattle.kernel.specs.Table.{taskAt}
 use Rattle.rules.specs.Good.{readyKey, sendersKey, eventKey}
 use Rattle.rules.proofs.Made.{Made}
 use Rattle.image.specs.Bytes.{recordAt}

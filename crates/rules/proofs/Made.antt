@@ -1,14 +1,14 @@
 -- A table whose rows were made from its tasks and their places is good exactly if each task stands at its place.
 use Prim.Native.Nat.{ℕ, _+_, _-_, _≤_, _<_}
-use mathlib.Core.Path.{_≡_, refl, sym, ap, _∙_}
+use mathlib.Core.Path.{_≡_, sym, ap, _∙_}
 use mathlib.Core.Logic.{⊎-elim}
-use mathlib.Core.Bool.{Bool, true, false, not, _&&_, _||_, or-true}
+use mathlib.Core.Bool.{Bool, true, _&&_, _||_, or-true}
 use mathlib.Core.List.{List}
 use native.Mathlib.Omega.{arith}
 use native.Mathlib.Decide.{decLt}
 use lib.ListN.{getD}
 use lib.Dec.{eqb, ltb, leb}
-use borrow.Author.Tests.{eq-eqb, eqb-true, le-leb, lt-leb}
+use borrow.Author.Tests.{eq-eqb, le-leb, lt-leb}
 use Rattle.queue.specs.declared.Queue.{Queue}
 use Rattle.queue.specs.Choose.{allBelow}
 use Rattle.queue.specs.Rows.{rowAt, rowsKept}
@@ -18,7 +18,7 @@ use Rattle.queue.proofs.Made.{made-kept, names-made}
 use Rattle.task.specs.Task.{priorities, events, stateCode, awaited, isEventBlocked}
 use Rattle.kernel.specs.declared.table.Table.{Table}
 use Rattle.kernel.specs.Table.{slots, taskAt, readyRow, sendersRow, waiterAt, activeSlot, usedSlots}
-use Rattle.rules.specs.Good.{goodTasks, goodActive, goodReady, goodSenders, goodWaiters, goodTable, goodUnused, readyKey, sendersKey, eventKey, waitsFor}
+use Rattle.rules.specs.Good.{goodTasks, goodActive, goodReady, goodSenders, goodTable, readyKey, sendersKey, eventKey, waitsFor}
 use Rattle.rules.specs.Check.{slotHeld, slotStands, goodPlaced}
 use Rattle.rules.proofs.Good.{first-used}
 use Rattle.rules.proofs.Walk.{slotAlone, slotNamed, slotFine, slotPast, waits, event-near, past, parts, good-slots, table-good}

@@ -1,6 +1,6 @@
 -- `image::stored::decode` meets its contract. The loop's invariant: the table is that of the first s records, and those are exact or not.
 use Prim.Native.Nat.{ℕ, _+_, _-_, _*_, _≤_}
-use mathlib.Core.Path.{sym, refl, ap, _∙_, _≡_}
+use mathlib.Core.Path.{refl, ap, _∙_, _≡_}
 use mathlib.Core.Logic.{⊎-elim}
 use mathlib.Core.Bool.{_&&_}
 use mathlib.Core.List.{List}

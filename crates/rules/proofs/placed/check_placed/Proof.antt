@@ -1,5 +1,5 @@
 -- `rules::placed::check_placed` meets its contract. The loop's invariant: what was asked before the loop and of the slots before `s`.
-use Prim.Native.Nat.{ℕ, _+_, _-_, _≤_, _<_}
+use Prim.Native.Nat.{ℕ, _+_, _-_, _≤_}
 use mathlib.Core.Path.{_≡_, refl, sym, ap, _∙_}
 use mathlib.Core.Bool.{Bool, true, false, _&&_, _||_, and-true}
 use mathlib.Core.Logic.{⊎-elim}
@@ -17,7 +17,7 @@ use Rattle.task.specs.Task.{priorities, events}
 use Rattle.kernel.specs.declared.table.Table.{Table}
 use Rattle.kernel.specs.Table.{slots, taskAt, readyRow, sendersRow, waiterAt, activeSlot, usedSlots}
 use Rattle.kernel.proofs.Owned.{owned-shaped}
-use Rattle.rules.specs.Good.{goodUnused, readyKey, sendersKey, eventKey}
+use Rattle.rules.specs.Good.{goodUnused, sendersKey}
 use Rattle.rules.specs.Check.{slotHeld, slotStands, goodPlaced}
 use Rattle.rules.proofs.Good.{first-used}
 use Rattle.rules.proofs.Walk.{used-found, active-found}
