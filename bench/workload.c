@@ -51,17 +51,17 @@ static bool serves(uint32_t tid)
 static void make_all(void)
 {
     for (uint32_t tid = 2; tid <= tasks; tid++) {
-        while (table.active->tid != 1) {
-            int32_t active = table.active->tid;
-            if (serves((uint32_t)active))
-                go(RECEIVE, 0, 64, 0, 0, 0);
+        while (table.active != 1) {
+            int32_t active = (int32_t)table.active;
+            if (serves(table.active))
+                go(KIND_RECEIVE, 0, 64, 0, 0, 0);
             else if (active < EVENTS)
-                go(AWAIT_EVENT, active, 0, 0, 0, 0);
+                go(KIND_AWAIT_EVENT, active, 0, 0, 0, 0);
             else
-                go(SEND, 2, 0, 4, 0, 4);
+                go(KIND_SEND, 2, 0, 4, 0, 4);
         }
         uint32_t above = tid % 2 == 1 ? 2 : 12;
-        go(CREATE, (int32_t)(serves(tid) ? tid * 3 % 4 + above : 4 + tid * 5 % 8), 0, 0, 0, 0);
+        go(KIND_CREATE, (int32_t)(serves(tid) ? tid * 3 % 4 + above : 4 + tid * 5 % 8), 0, 0, 0, 0);
     }
 }
 
@@ -76,15 +76,15 @@ static void serve(uint32_t tid)
             for (uint32_t i = 0; i < waiters[tid]; i++)
                 waiting[tid][i] = waiting[tid][i + 1];
         }
-        go(REPLY, sender, offset, length, 0, 0);
+        go(KIND_REPLY, sender, offset, length, 0, 0);
     } else if (roll < 97) {
         int32_t offset = between(0, 64), length = between(8, 64);
-        go(RECEIVE, offset, length, 0, 0, 0);
+        go(KIND_RECEIVE, offset, length, 0, 0, 0);
     } else if (roll < 98) {
-        go(RECEIVE, 250, 20, 0, 0, 0);
+        go(KIND_RECEIVE, 250, 20, 0, 0, 0);
     } else {
         int32_t offset = between(0, 256), byte = between(0, 256);
-        go(OWN_WRITE, offset, byte, 0, 0, 0);
+        go(KIND_OWN_WRITE, offset, byte, 0, 0, 0);
     }
 }
 
@@ -93,25 +93,25 @@ static void ask(uint32_t tid)
     uint32_t roll = below(&seed, 100);
     int32_t a = between(0, 100), b = between(4, 40), c = between(0, 100), d = between(4, 40);
     if (roll < 55)
-        go(SEND, between(2, 2 + servers), a, b, c, d);
+        go(KIND_SEND, between(2, 2 + servers), a, b, c, d);
     else if (roll < 62)
-        go(AWAIT_EVENT, between(0, 16), 0, 0, 0, 0);
+        go(KIND_AWAIT_EVENT, between(0, 16), 0, 0, 0, 0);
     else if (roll < 69)
-        go(OWN_WRITE, a, b, 0, 0, 0);
+        go(KIND_OWN_WRITE, a, b, 0, 0, 0);
     else if (roll < 76)
-        go(MY_TID, 0, 0, 0, 0, 0);
+        go(KIND_MY_TID, 0, 0, 0, 0, 0);
     else if (roll < 82)
-        go(MY_PARENT_TID, 0, 0, 0, 0, 0);
+        go(KIND_MY_PARENT_TID, 0, 0, 0, 0, 0);
     else if (roll < 92)
-        go(YIELD, 0, 0, 0, 0, 0);
+        go(KIND_YIELD, 0, 0, 0, 0, 0);
     else if (roll < 94)
-        go(SEND, TASKS + 8, a, b, c, d); /* no such task */
+        go(KIND_SEND, TASKS + 8, a, b, c, d); /* no such task */
     else if (roll < 96)
-        go(SEND, (int32_t)tid, a, b, c, d);
+        go(KIND_SEND, (int32_t)tid, a, b, c, d);
     else if (roll < 98)
-        go(SEND, 2, 250, 40, c, d);
+        go(KIND_SEND, 2, 250, 40, c, d);
     else
-        go(REPLY, between(1, tasks + 1), a, b, 0, 0);
+        go(KIND_REPLY, between(1, tasks + 1), a, b, 0, 0);
 }
 
 /* An event that somebody waits for, or any where nobody does. */
@@ -135,13 +135,13 @@ static bool awaited(void)
 
 static void one(void)
 {
-    uint32_t tid = table.active ? table.active->tid : 0;
+    uint32_t tid = table.active;
     bool idle = tid == 0 || (tid == 1 && tasks > 2);
     if (tid == 0 || (awaited() && chance(&seed, idle ? 50 : 4)) || chance(&seed, 1)) {
         int32_t event = some_event(), data = between(0, 1000);
-        go(EVENT, event, data, 0, 0, 0);
+        go(KIND_EVENT, event, data, 0, 0, 0);
     } else if (idle) {
-        go(chance(&seed, 90) ? YIELD : MY_TID, 0, 0, 0, 0, 0);
+        go(chance(&seed, 90) ? KIND_YIELD : KIND_MY_TID, 0, 0, 0, 0, 0);
     } else if (serves(tid)) {
         serve(tid);
     } else {
@@ -169,7 +169,7 @@ int main(int argc, char **argv)
     for (unsigned long i = 0; i < steps; i++)
         one();
     fprintf(stderr, "%u tasks: %lu requests to make them, %lu more; of 100 %lu Send, Receive, Reply, %lu told values, %lu faults\n",
-            (unsigned)tasks, made, steps, (asked[SEND] + asked[RECEIVE] + asked[REPLY]) * 100 / all, told[VALUE] * 100 / all,
-            told[FAULT] * 100 / all);
+            (unsigned)tasks, made, steps, (asked[KIND_SEND] + asked[KIND_RECEIVE] + asked[KIND_REPLY]) * 100 / all,
+            told[RESULT_VALUE] * 100 / all, told[RESULT_FAULT] * 100 / all);
     return 0;
 }

@@ -3,10 +3,11 @@
 
 #include <stdio.h>
 #include <stdlib.h>
+#include <string.h>
 
 unsigned long cover_paths[PATHS];
 unsigned long cover_rules[RULES][8];
-unsigned cover_broken;
+unsigned cover_rule, cover_state;
 
 #define TEXT(name, text) text,
 static const char *const path_text[] = {COVER_PATHS(TEXT)};
@@ -86,7 +87,7 @@ static int print_rules(void)
     return missed;
 }
 
-int cover_print(void)
+static int cover_print(void)
 {
     int missed = print_paths() + print_rules();
     for (int i = 0; i < PATHS; i++)
@@ -97,4 +98,47 @@ int cover_print(void)
             printf("never reached: rule \"%s\", state %s\n",
                    rule_text[i / 8], state_text[i % 8]);
     return missed > 0;
+}
+
+void cover_program(int argc, char **argv)
+{
+    cover_load();
+    if (argc == 2 && strcmp(argv[1], "cover") == 0)
+        exit(cover_print());
+    atexit(cover_save);
+}
+
+/* The refusals of a step, and what else would have refused it. */
+void cover_refused(uint32_t verdict, uint32_t active, const struct request *q)
+{
+    bool far_write = ((q->arg[0] | q->arg[1]) & ~0xFF) != 0;
+    switch (verdict) {
+    case REFUSED_TABLE:
+        MARK(STEP_UNUSED);
+        break;
+    case REFUSED_KIND:
+        MARK(REFUSAL_3);
+        MARK_IF(active == 0, ORDER_3_4);
+        break;
+    case REFUSED_NO_ACTIVE:
+        MARK(REFUSAL_4);
+        MARK_IF(q->kind == KIND_OWN_WRITE && far_write, ORDER_4_9);
+        break;
+    case REFUSED_EVENT:
+        MARK(REFUSAL_8);
+        MARK_IF(active == 0, IDLE_8);
+        break;
+    case REFUSED_WRITE:
+        MARK(REFUSAL_9);
+        break;
+    }
+}
+
+/* A byte past the used slots, which has to be zero. */
+bool cover_byte(uint8_t byte, bool is_state)
+{
+    bool state = is_state && byte <= STATE_EXITED;
+    MARK_RECORD(state ? byte : STATE_UNUSED);
+    MARK_ASK(state ? RULE_FIRST_RUN : is_state ? RULE_STATE : RULE_UNUSED);
+    return true;
 }

@@ -1,5 +1,7 @@
-/* What the comparison must have reached. Only a build with -DCOVER counts;
- * in every other build the marks below vanish. */
+/* What the comparison must have reached, and the marks that count it. Only a
+ * build with -DCOVER counts; in every other build the marks vanish. Each mark
+ * in kernel.c, image.c and main.c is a line of its own with MARK in it, so
+ * that those files without these lines are what their author wrote. */
 #ifndef PEER_COVER_H
 #define PEER_COVER_H
 
@@ -9,7 +11,6 @@
     X(REFUSAL_3, "refusal 3") \
     X(REFUSAL_4, "refusal 4") \
     X(REFUSAL_5, "refusal 5") \
-    X(REFUSAL_6, "refusal 6 (self test of peer_start)") \
     X(REFUSAL_7, "refusal 7") \
     X(REFUSAL_8, "refusal 8") \
     X(REFUSAL_9, "refusal 9") \
@@ -22,6 +23,11 @@
     X(ORDER_3_4, "refusal 3 while idle") \
     X(ORDER_4_9, "refusal 4 where 9 holds too") \
     X(IDLE_8, "refusal 8 while idle") \
+    X(START_6, "refusal 6 of a start (self test)") \
+    X(START_6_7, "refusal 6 of a start where 7 holds too (self test)") \
+    X(START_7, "refusal 7 of a start (self test)") \
+    X(STEP_UNUSED, "refusal 2 of the all-unused table (self test)") \
+    X(WRITE_UNUSED, "the all-unused table not written (self test)") \
     X(END_R5, "run ending in an incomplete record") \
     X(CASE_CUT, "cases ending in a case cut short") \
     X(CASE_LONG, "cases ending in too long a chunk") \
@@ -42,11 +48,13 @@
     X(SEND_RANGE, "Send -1, tid outside the slots") \
     X(SEND_UNUSED, "Send -1, tid unused") \
     X(SEND_EXITED, "Send -1, tid exited") \
-    X(SEND_GONE_BUFFER, "Send -1 where -3 holds too") \
+    X(SEND_GONE_MESSAGE, "Send -1, message buffer bad too") \
+    X(SEND_GONE_REPLY, "Send -1, reply buffer bad too") \
     X(SEND_SELF, "Send -2") \
-    X(SEND_SELF_BUFFER, "Send -2 where -3 holds too") \
-    X(SEND_MESSAGE, "Send -3, message buffer") \
-    X(SEND_REPLY, "Send -3, reply buffer") \
+    X(SEND_SELF_MESSAGE, "Send -2, message buffer bad too") \
+    X(SEND_SELF_REPLY, "Send -2, reply buffer bad too") \
+    X(SEND_MESSAGE, "Send -3, message buffer alone") \
+    X(SEND_REPLY, "Send -3, reply buffer alone") \
     X(SEND_WAITING, "Send to a waiting receiver") \
     X(SEND_CUT, "Send, delivery cut") \
     X(SEND_ZERO, "Send, delivery of no bytes") \
@@ -101,12 +109,12 @@
     X(RULE_BYTE_15, 0xFE, "byte 15 not zero") \
     X(RULE_PLACE_UNUSED, 0xEA, "unused place not zero") \
     X(RULE_NAME_UNUSED, 0xAE, "unused byte 4 not zero") \
+    X(RULE_MESSAGE_BAD, 0x18, "message buffer bad") \
     X(RULE_MESSAGE_OFFSET, 0xE6, "unused message offset") \
     X(RULE_MESSAGE_LENGTH, 0xE6, "unused message length") \
+    X(RULE_REPLY_BAD, 0x30, "reply buffer bad") \
     X(RULE_REPLY_OFFSET, 0xCE, "unused reply offset") \
     X(RULE_REPLY_LENGTH, 0xCE, "unused reply length") \
-    X(RULE_MESSAGE_BAD, 0x18, "message buffer bad") \
-    X(RULE_REPLY_BAD, 0x30, "reply buffer bad") \
     X(RULE_RESULT_KIND, 0xFE, "result kind out of range") \
     X(RULE_RESULT_HELD, 0xFA, "result of a task not ready") \
     X(RULE_EMPTY_FROM, 0xFE, "from without a result") \
@@ -128,7 +136,7 @@
     X(RULE_WAITING_SENDER, 0x08, "sender queued at a waiter")
 
 #ifdef COVER
-#include <stdbool.h>
+#include "kernel.h"
 
 #define COVER_NAME(name, text) name,
 enum cover_path { COVER_PATHS(COVER_NAME) PATHS };
@@ -139,22 +147,56 @@ enum cover_rule { COVER_RULES(COVER_NAME) RULES };
 
 extern unsigned long cover_paths[PATHS];
 extern unsigned long cover_rules[RULES][8];
-extern unsigned cover_broken; /* last rule found broken, times 8, and state */
+extern unsigned cover_rule;  /* asked last, so the broken one if one is */
+extern unsigned cover_state; /* of the record that it was asked of */
 
 void cover_load(void);   /* adds the file named by PEER_COVER, if there */
 void cover_save(void);   /* writes that file */
-int cover_print(void);   /* the table; 1 if a path was never reached */
+void cover_program(int argc, char **argv); /* `cover` prints and ends */
+void cover_refused(uint32_t verdict, uint32_t active,
+                   const struct request *q);
+bool cover_byte(uint8_t byte, bool is_state); /* true */
 
-#define HIT(path) ((void)cover_paths[path]++)
-#define HIT_IF(test, path) ((void)((test) && cover_paths[path]++))
-#define BROKEN(rule, state) \
-    (cover_broken = (rule) * 8 + (unsigned)(state), false)
-#define HIT_RULE() ((void)cover_rules[cover_broken / 8][cover_broken % 8]++)
+/* A path was taken; some paths stand beside each other for a number added. */
+#define MARK(path) ((void)cover_paths[path]++)
+#define MARK_IF(test, path) ((void)((test) && cover_paths[path]++))
+#define MARK_MISSING(first, tid, used) \
+    MARK((first) + ((tid) - 1 >= TASKS ? 0 : (tid) > (used) ? 1 : 2))
+#define MARK_DELIVERY(first, source, room) \
+    (MARK((first) + ((room).length < (source).length)), \
+     MARK_IF((room).length == 0 || (source).length == 0, (first) + 2))
+#define MARK_REFUSED(verdict, active, q) cover_refused(verdict, active, q)
+#define COVER_COMPANY(k) \
+    ((k)->ready[(k)->task[(k)->active].priority].length > 0)
+#define COVER_PARENT(k) \
+    ((k)->task[(k)->active].parent == 0 ? PARENT_FIRST \
+     : (k)->task[(k)->task[(k)->active].parent].state == STATE_EXITED \
+     ? PARENT_EXITED : PARENT_LIVE)
+
+/* A rule is asked of a record; MARK_RULE counts the one asked last. */
+#define MARK_RECORD(state) ((void)(cover_state = (state)))
+#define MARK_ASK(rule) ((void)(cover_rule = (rule)))
+#define MARK_ASK_IF(test, rule) ((void)((test) && (cover_rule = (rule))))
+#define MARK_ASK_MORE(n) ((void)(cover_rule += (n)))
+#define MARK_AND_ASK(rule) && (cover_rule = (rule), true)
+#define MARK_EACH_BYTE(byte, is_state) if (cover_byte(byte, is_state))
+#define MARK_RULE() ((void)cover_rules[cover_rule][cover_state]++)
+
+#define MARK_PROGRAM(argc, argv) cover_program(argc, argv)
 #else
-#define HIT(path) ((void)0)
-#define HIT_IF(test, path) ((void)0)
-#define BROKEN(rule, state) (false)
-#define HIT_RULE() ((void)0)
+#define MARK(path) ((void)0)
+#define MARK_IF(test, path) ((void)0)
+#define MARK_MISSING(first, tid, used) ((void)0)
+#define MARK_DELIVERY(first, source, room) ((void)0)
+#define MARK_REFUSED(verdict, active, q) ((void)0)
+#define MARK_RECORD(state) ((void)0)
+#define MARK_ASK(rule) ((void)0)
+#define MARK_ASK_IF(test, rule) ((void)0)
+#define MARK_ASK_MORE(n) ((void)0)
+#define MARK_AND_ASK(rule)
+#define MARK_EACH_BYTE(byte, is_state)
+#define MARK_RULE() ((void)0)
+#define MARK_PROGRAM(argc, argv) ((void)0)
 #endif
 
 #endif

@@ -4,6 +4,8 @@
 
 #include "kernel.h"
 
+enum { STATES = STATE_EXITED + 1 };
+
 /* splitmix64: small, and the same everywhere; so no expression may hold two
  * draws whose order C leaves open. */
 static inline uint64_t draw(uint64_t *seed)

@@ -1,327 +1,341 @@
-/* The stored records and the byte entry over them. */
-#include <stddef.h>
-#include <string.h>
-
-#include "cover.h"
+/* The stored records and the byte entry. */
 #include "kernel.h"
+
+#include <string.h>
+#include "cover.h"
 
 /* Where the fields of a stored task stand. */
 enum {
-    AT_STATE, AT_PRIORITY, AT_PARENT, AT_PLACE, AT_NAME, AT_RESULT,
-    AT_MESSAGE = 6, AT_REPLY = 10, AT_FROM = 14, AT_ZERO = 15, AT_NUMBER = 16
+    AT_STATE = 0,
+    AT_PRIORITY = 1,
+    AT_PARENT = 2,
+    AT_PLACE = 3,
+    AT_WAITS_FOR = 4,
+    AT_RESULT = 5,
+    AT_MESSAGE = 6,
+    AT_REPLY = 10,
+    AT_FROM = 14,
+    AT_ZERO = 15,
+    AT_NUMBER = 16
 };
 
-/* What a state makes use of; every other field must be zero. */
-enum { PLACE = 1, NAME = 2, MESSAGE = 4, REPLY_ROOM = 8, RESULT = 16 };
-
-static const uint8_t uses[STATES] = {
-    [READY] = PLACE | RESULT,
-    [SEND_BLOCKED] = MESSAGE,
-    [RECEIVE_BLOCKED] = PLACE | NAME | MESSAGE | REPLY_ROOM,
-    [REPLY_BLOCKED] = REPLY_ROOM,
-    [EVENT_BLOCKED] = NAME,
-};
-
-static uint16_t get2(const uint8_t *b)
+static uint32_t get16(const uint8_t *b)
 {
-    return (uint16_t)(b[0] | b[1] << 8);
+    return (uint32_t)b[0] | (uint32_t)b[1] << 8;
 }
 
-static uint32_t get4(const uint8_t *b)
+static uint32_t get32(const uint8_t *b)
 {
-    return get2(b) | (uint32_t)get2(b + 2) << 16;
+    return get16(b) | get16(b + 2) << 16;
 }
 
-/* Arguments are signed: a word past 2^31 is a negative number. */
-static int32_t get_signed(const uint8_t *b)
+/* By memcpy, as C11 leaves the cast of a large number to the compiler. */
+static int32_t get_signed32(const uint8_t *b)
 {
-    uint32_t u = get4(b);
-    return u <= INT32_MAX ? (int32_t)u : (int32_t)(u - INT32_MAX - 1) +
-                                         INT32_MIN;
+    uint32_t u = get32(b);
+    int32_t s;
+
+    memcpy(&s, &u, sizeof s);
+    return s;
 }
 
-static void put2(uint8_t *b, uint16_t n)
+static void put16(uint8_t *b, uint32_t u)
 {
-    b[0] = (uint8_t)n;
-    b[1] = (uint8_t)(n >> 8);
+    b[0] = (uint8_t)u;
+    b[1] = (uint8_t)(u >> 8);
 }
 
-static void put4(uint8_t *b, uint32_t n)
+static void put32(uint8_t *b, uint32_t u)
 {
-    put2(b, (uint16_t)n);
-    put2(b + 2, (uint16_t)(n >> 16));
+    put16(b, u);
+    put16(b + 2, u >> 16);
 }
 
-/* ---- reading ---- */
+/* Which states use which fields: read and written by the same rule. */
 
-static bool read_parent(struct task *t, const uint8_t *b)
+static bool uses_place(enum state s)
 {
-    t->parent = b[AT_PARENT];
-    if (t->tid == 1)
-        return t->parent == 0 || BROKEN(RULE_PARENT_FIRST, t->state);
-    if (t->parent == 0)
-        return BROKEN(RULE_PARENT_NONE, t->state);
-    return t->parent < t->tid || BROKEN(RULE_PARENT_LATE, t->state);
+    return s == STATE_READY || s == STATE_RECEIVE_BLOCKED;
 }
 
-/* A target may have exited, it only has to be a used slot. */
-static bool read_target(struct table *k, struct task *t, uint8_t target)
+static bool uses_waits_for(enum state s)
 {
-    if (target == 0)
-        return BROKEN(RULE_TARGET_NONE, t->state);
-    if (target > k->used)
-        return BROKEN(RULE_TARGET_UNUSED, t->state);
-    if (target == t->tid)
-        return BROKEN(RULE_TARGET_SELF, t->state);
-    t->target = &k->tasks[target - 1];
-    return true;
+    return s == STATE_RECEIVE_BLOCKED || s == STATE_EVENT_BLOCKED;
 }
 
-static bool read_event(struct table *k, struct task *t, uint8_t event)
+static bool uses_message(enum state s)
 {
-    if (event >= EVENTS)
-        return BROKEN(RULE_EVENT, t->state);
-    if (k->waiter[event])
-        return BROKEN(RULE_EVENT_TWICE, t->state);
-    t->event = event;
-    k->waiter[event] = t;
-    return true;
+    return s == STATE_SEND_BLOCKED || s == STATE_RECEIVE_BLOCKED;
 }
 
-static bool read_standing(struct table *k, struct task *t, const uint8_t *b)
+static bool uses_reply(enum state s)
 {
-    t->place = b[AT_PLACE];
-    if (!(uses[t->state] & PLACE) && t->place != 0)
-        return BROKEN(RULE_PLACE_UNUSED, t->state);
-    if (t->place >= TASKS) /* more than a queue can ever hold */
-        return BROKEN(RULE_PLACE_RANGE, t->state);
-    if (t->state == RECEIVE_BLOCKED)
-        return read_target(k, t, b[AT_NAME]);
-    if (t->state == EVENT_BLOCKED)
-        return read_event(k, t, b[AT_NAME]);
-    return b[AT_NAME] == 0 || BROKEN(RULE_NAME_UNUSED, t->state);
+    return s == STATE_RECEIVE_BLOCKED || s == STATE_REPLY_BLOCKED;
 }
 
-static bool good_room(struct buffer r)
+static bool buffer_read(struct buffer *b, const uint8_t *at, bool in_use)
 {
-    return (uint32_t)r.offset + r.length <= AREA;
+    b->offset = get16(at);
+    b->length = get16(at + 2);
+    MARK_ASK_MORE(in_use ? 0 : b->offset != 0 ? 1 : 2);
+    if (!in_use)
+        return b->offset == 0 && b->length == 0;
+    return buffer_is_good((int32_t)b->offset, (int32_t)b->length);
 }
 
-static bool read_buffers(struct task *t, const uint8_t *b)
+static bool result_read(struct task *t, const uint8_t *slot, uint32_t used)
 {
-    t->message = (struct buffer){get2(b + AT_MESSAGE),
-                                 get2(b + AT_MESSAGE + 2)};
-    t->reply = (struct buffer){get2(b + AT_REPLY), get2(b + AT_REPLY + 2)};
-    if (uses[t->state] & MESSAGE) {
-        if (!good_room(t->message))
-            return BROKEN(RULE_MESSAGE_BAD, t->state);
-    } else if (t->message.offset != 0) {
-        return BROKEN(RULE_MESSAGE_OFFSET, t->state);
-    } else if (t->message.length != 0) {
-        return BROKEN(RULE_MESSAGE_LENGTH, t->state);
-    }
-    if (uses[t->state] & REPLY_ROOM) {
-        if (!good_room(t->reply))
-            return BROKEN(RULE_REPLY_BAD, t->state);
-    } else if (t->reply.offset != 0) {
-        return BROKEN(RULE_REPLY_OFFSET, t->state);
-    } else if (t->reply.length != 0) {
-        return BROKEN(RULE_REPLY_LENGTH, t->state);
-    }
-    return true;
-}
+    struct result r = { slot[AT_RESULT], get_signed32(slot + AT_NUMBER),
+                        slot[AT_FROM] };
 
-/* Any value may carry a from, whatever the task once asked for: the rules
- * bound it by the number of used slots and by nothing else. */
-static bool read_result(const struct table *k, struct task *t,
-                        const uint8_t *b)
-{
-    struct result r = {b[AT_RESULT], get_signed(b + AT_NUMBER), b[AT_FROM]};
     t->result = r;
-    if (r.kind > FAULT)
-        return BROKEN(RULE_RESULT_KIND, t->state);
-    if (r.kind == NOTHING) {
-        if (r.from != 0)
-            return BROKEN(RULE_EMPTY_FROM, t->state);
-        return r.number == 0 || BROKEN(RULE_EMPTY_VALUE, t->state);
+    MARK_ASK(RULE_RESULT_KIND);
+    switch (r.kind) {
+    case RESULT_NOTHING:
+        MARK_ASK(r.from != 0 ? RULE_EMPTY_FROM : RULE_EMPTY_VALUE);
+        return r.number == 0 && r.from == 0;
+    case RESULT_VALUE:
+        MARK_ASK(r.number < 0 ? RULE_VALUE : RULE_VALUE_FROM);
+        MARK_ASK_IF(t->state != STATE_READY, RULE_RESULT_HELD);
+        return t->state == STATE_READY && r.number >= 0 && r.from <= used;
+    case RESULT_FAULT:
+        MARK_ASK(t->state != STATE_READY ? RULE_RESULT_HELD : RULE_FAULT);
+        return t->state == STATE_READY && r.number >= -3 && r.number <= -1
+            MARK_AND_ASK(RULE_FAULT_FROM)
+            && r.from == 0;
+    default:
+        return false;
     }
-    if (!(uses[t->state] & RESULT))
-        return BROKEN(RULE_RESULT_HELD, t->state);
-    if (r.kind == VALUE) {
-        if (r.from > k->used)
-            return BROKEN(RULE_VALUE_FROM, t->state);
-        return r.number >= 0 || BROKEN(RULE_VALUE, t->state);
-    }
-    if (r.from != 0)
-        return BROKEN(RULE_FAULT_FROM, t->state);
-    return (r.number >= -3 && r.number <= -1) || BROKEN(RULE_FAULT, t->state);
 }
 
-static bool read_slot(struct table *k, uint32_t slot, const uint8_t *b)
+static bool parent_is_good(uint32_t parent, uint32_t tid)
 {
-    struct task *t = &k->tasks[slot];
-    if (b[AT_STATE] >= STATES)
-        return BROKEN(RULE_STATE, UNUSED);
-    t->state = (enum state)b[AT_STATE];
-    t->tid = (uint8_t)(slot + 1);
-    t->priority = b[AT_PRIORITY];
-    if (t->priority >= PRIORITIES)
-        return BROKEN(RULE_PRIORITY, t->state);
-    if (b[AT_ZERO] != 0)
-        return BROKEN(RULE_BYTE_15, t->state);
-    if (t->state == ACTIVE) {
-        if (k->active)
-            return BROKEN(RULE_ACTIVE_TWICE, t->state);
-        k->active = t;
+    MARK_ASK(tid == 1 ? RULE_PARENT_FIRST : RULE_PARENT_LATE);
+    MARK_ASK_IF(tid != 1 && parent == 0, RULE_PARENT_NONE);
+    return tid == 1 ? parent == 0 : parent >= 1 && parent < tid;
+}
+
+static bool waits_for_is_good(const struct task *t, uint32_t tid,
+                              uint32_t used)
+{
+    switch (t->state) {
+    case STATE_RECEIVE_BLOCKED:
+        MARK_ASK(t->waits_for < 1 ? RULE_TARGET_NONE : RULE_TARGET_UNUSED);
+        return t->waits_for >= 1 && t->waits_for <= used
+            MARK_AND_ASK(RULE_TARGET_SELF)
+            && t->waits_for != tid;
+    case STATE_EVENT_BLOCKED:
+        MARK_ASK(RULE_EVENT);
+        return t->waits_for < EVENTS;
+    default:
+        MARK_ASK(RULE_NAME_UNUSED);
+        return t->waits_for == 0;
     }
-    return read_parent(t, b) && read_standing(k, t, b) &&
-           read_buffers(t, b) && read_result(k, t, b);
 }
 
-static bool read_unused(const uint8_t *b)
+/* Everything about a used slot that its own bytes tell. Its place has a
+   meaning only beside the others and is left to queues_read(). */
+static bool task_read(struct task *t, uint32_t tid, const uint8_t *slot,
+                      uint32_t used)
 {
-    static const uint8_t zero[SLOT_BYTES];
-    if (b[AT_STATE] >= STATES)
-        return BROKEN(RULE_STATE, UNUSED);
-    if (b[AT_STATE] != UNUSED)
-        return BROKEN(RULE_FIRST_RUN, b[AT_STATE]);
-    return memcmp(b, zero, SLOT_BYTES) == 0 || BROKEN(RULE_UNUSED, UNUSED);
+    MARK_RECORD(STATE_UNUSED);
+    MARK_ASK(RULE_STATE);
+    if (slot[AT_STATE] > STATE_EXITED)
+        return false;
+    t->state = (enum state)slot[AT_STATE];
+    t->priority = slot[AT_PRIORITY];
+    t->parent = slot[AT_PARENT];
+    t->waits_for = slot[AT_WAITS_FOR];
+    MARK_RECORD(t->state);
+    MARK_ASK(RULE_PRIORITY);
+    return t->priority < PRIORITIES
+        && parent_is_good(t->parent, tid)
+        && waits_for_is_good(t, tid, used)
+        MARK_AND_ASK(RULE_PLACE_UNUSED)
+        && (uses_place(t->state) || slot[AT_PLACE] == 0)
+        MARK_AND_ASK(RULE_MESSAGE_BAD)
+        && buffer_read(&t->message, slot + AT_MESSAGE, uses_message(t->state))
+        MARK_AND_ASK(RULE_REPLY_BAD)
+        && buffer_read(&t->reply, slot + AT_REPLY, uses_reply(t->state))
+        && result_read(t, slot, used)
+        MARK_AND_ASK(RULE_BYTE_15)
+        && slot[AT_ZERO] == 0;
 }
 
-/* Tasks join in the order of their places, so each must find its queue just
- * as long as its place says: shorter is a gap, longer a place given twice. */
-static bool link_queues(struct table *k)
+/* The number of used slots; 0, which no good table has, where they are not a
+   first run or an unused one is not all zero. */
+static uint32_t used_read(const uint8_t *image)
 {
-    struct task *at[TASKS] = {NULL};
-    for (uint32_t i = 0; i < k->used; i++) {
-        struct task *t = &k->tasks[i];
-        if (uses[t->state] & PLACE) {
-            t->next = at[t->place];
-            at[t->place] = t;
+    uint32_t used = 0;
+
+    while (used < TASKS && image[used * SLOT_BYTES + AT_STATE] != STATE_UNUSED)
+        used++;
+    for (uint32_t i = used * SLOT_BYTES; i < IMAGE_BYTES; i++)
+        MARK_EACH_BYTE(image[i], i % SLOT_BYTES == AT_STATE)
+        if (image[i] != 0)
+            return 0;
+    MARK_RECORD(STATE_UNUSED);
+    MARK_ASK(RULE_NO_TASK);
+    return used;
+}
+
+/* The tasks one by one, with the two places that only one task may take:
+   being active, and waiting for an event. */
+static bool tasks_read(struct table *k, const uint8_t *image)
+{
+    for (uint32_t tid = 1; tid <= k->used; tid++) {
+        struct task *t = &k->task[tid];
+        uint32_t *sole = NULL;
+
+        if (!task_read(t, tid, image + (tid - 1) * SLOT_BYTES, k->used))
+            return false;
+        if (t->state == STATE_ACTIVE)
+            sole = &k->active;
+        else if (t->state == STATE_EVENT_BLOCKED)
+            sole = &k->waiter[t->waits_for];
+        if (sole != NULL) {
+            MARK_ASK(sole == &k->active ? RULE_ACTIVE_TWICE : RULE_EVENT_TWICE);
+            if (*sole != 0)
+                return false;
+            *sole = tid;
         }
+    }
+    return true;
+}
+
+/* Builds the queues. The tasks are first sorted by their places, so that each
+   finds its queue just as long as its place says; a longer queue means the
+   place is taken twice, a shorter one that there is a gap. */
+static bool queues_read(struct table *k, const uint8_t *image)
+{
+    uint32_t first[TASKS] = { 0 }, other[TASKS + 1];
+
+    for (uint32_t tid = 1; tid <= k->used; tid++) {
+        uint32_t place = image[(tid - 1) * SLOT_BYTES + AT_PLACE];
+
+        if (!uses_place(k->task[tid].state))
+            continue;
+        MARK_RECORD(k->task[tid].state);
+        MARK_ASK(RULE_PLACE_RANGE);
+        if (place >= TASKS)
+            return false; /* no queue is as long */
+        other[tid] = first[place];
+        first[place] = tid;
     }
     for (uint32_t place = 0; place < TASKS; place++) {
-        for (struct task *t = at[place], *next; t; t = next) {
-            struct queue *q = t->state == READY ? &k->ready[t->priority]
-                                                : &t->target->senders;
-            next = t->next;
-            if (q->length > place)
-                return BROKEN(RULE_PLACE_TWICE, t->state);
-            if (q->length < place)
-                return BROKEN(RULE_PLACE_GAP, t->state);
-            queue_join(q, t);
+        for (uint32_t tid = first[place]; tid != 0; tid = other[tid]) {
+            struct task *t = &k->task[tid];
+            struct queue *q = t->state == STATE_READY
+                            ? &k->ready[t->priority]
+                            : &k->task[t->waits_for].senders;
+
+            MARK_RECORD(t->state);
+            MARK_ASK(q->length > place ? RULE_PLACE_TWICE : RULE_PLACE_GAP);
+            if (q->length != place)
+                return false;
+            table_append(k, q, tid);
         }
     }
     return true;
 }
 
-/* A ready task of higher priority than the active one is no fault here. */
-static bool check_whole(const struct table *k)
+/* The rules that tie states to whole queues. */
+static bool queues_fit(const struct table *k)
 {
-    for (uint32_t i = 0; i < k->used; i++) {
-        const struct task *t = &k->tasks[i];
-        if (t->state == READY && !k->active)
-            return BROKEN(RULE_NONE_ACTIVE, READY);
-        if (t->state == SEND_BLOCKED && t->senders.head)
-            return BROKEN(RULE_WAITING_SENDER, SEND_BLOCKED);
+    for (uint32_t tid = 1; tid <= k->used; tid++) {
+        const struct task *t = &k->task[tid];
+
+        MARK_RECORD(t->state);
+        MARK_ASK(t->state == STATE_READY ? RULE_NONE_ACTIVE : RULE_WAITING_SENDER);
+        if (t->state == STATE_SEND_BLOCKED && t->senders.length != 0)
+            return false;
+        if (t->state == STATE_READY && k->active == 0)
+            return false;
     }
     return true;
 }
 
 bool table_read(struct table *k, const uint8_t *image)
 {
-    memset(k, 0, sizeof *k);
-    while (k->used < TASKS && image[k->used * SLOT_BYTES] != UNUSED)
-        k->used++;
-    for (uint32_t i = k->used; i < TASKS; i++)
-        if (!read_unused(image + i * SLOT_BYTES))
-            return false;
-    if (k->used == 0)
-        return BROKEN(RULE_NO_TASK, UNUSED);
-    for (uint32_t i = 0; i < k->used; i++)
-        if (!read_slot(k, i, image + i * SLOT_BYTES))
-            return false;
-    return link_queues(k) && check_whole(k);
+    *k = (struct table){ 0 };
+    k->used = used_read(image);
+    if (k->used > 0 && tasks_read(k, image) && queues_read(k, image)
+        && queues_fit(k))
+        return true;
+    *k = (struct table){ 0 };
+    return false;
 }
 
-/* ---- writing ---- */
-
-static void number_places(struct queue *q)
+/* All but the place, over a slot of zeros. */
+static void task_write(const struct task *t, uint8_t *slot)
 {
-    uint8_t place = 0;
-    for (struct task *t = q->head; t; t = t->next)
-        t->place = place++;
+    slot[AT_STATE] = (uint8_t)t->state;
+    slot[AT_PRIORITY] = (uint8_t)t->priority;
+    slot[AT_PARENT] = (uint8_t)t->parent;
+    if (uses_waits_for(t->state))
+        slot[AT_WAITS_FOR] = (uint8_t)t->waits_for;
+    if (uses_message(t->state)) {
+        put16(slot + AT_MESSAGE, t->message.offset);
+        put16(slot + AT_MESSAGE + 2, t->message.length);
+    }
+    if (uses_reply(t->state)) {
+        put16(slot + AT_REPLY, t->reply.offset);
+        put16(slot + AT_REPLY + 2, t->reply.length);
+    }
+    slot[AT_RESULT] = (uint8_t)t->result.kind;
+    slot[AT_FROM] = (uint8_t)t->result.from;
+    put32(slot + AT_NUMBER, (uint32_t)t->result.number);
 }
 
-static void write_slot(const struct task *t, uint8_t *b)
+static void places_write(const struct table *k, const struct queue *q,
+                         uint8_t *image)
 {
-    b[AT_STATE] = (uint8_t)t->state;
-    b[AT_PRIORITY] = t->priority;
-    b[AT_PARENT] = t->parent;
-    if (uses[t->state] & PLACE)
-        b[AT_PLACE] = t->place;
-    if (uses[t->state] & NAME)
-        b[AT_NAME] = t->state == EVENT_BLOCKED ? t->event : t->target->tid;
-    if (uses[t->state] & MESSAGE) {
-        put2(b + AT_MESSAGE, t->message.offset);
-        put2(b + AT_MESSAGE + 2, t->message.length);
-    }
-    if (uses[t->state] & REPLY_ROOM) {
-        put2(b + AT_REPLY, t->reply.offset);
-        put2(b + AT_REPLY + 2, t->reply.length);
-    }
-    if (uses[t->state] & RESULT) {
-        b[AT_RESULT] = (uint8_t)t->result.kind;
-        b[AT_FROM] = (uint8_t)t->result.from;
-        put4(b + AT_NUMBER, (uint32_t)t->result.number);
+    uint32_t tid = q->head;
+
+    for (uint32_t place = 0; place < q->length; place++) {
+        image[(tid - 1) * SLOT_BYTES + AT_PLACE] = (uint8_t)place;
+        tid = k->task[tid].next;
     }
 }
 
 void table_write(struct table *k, uint8_t *image)
 {
-    for (int p = 0; p < PRIORITIES; p++)
-        number_places(&k->ready[p]);
-    for (uint32_t i = 0; i < k->used; i++)
-        number_places(&k->tasks[i].senders);
+    MARK_IF(k->used == 0, WRITE_UNUSED);
+    if (k->used == 0)
+        return; /* the all-unused table is not a good one and has no image */
     memset(image, 0, IMAGE_BYTES);
-    for (uint32_t i = 0; i < k->used; i++)
-        write_slot(&k->tasks[i], image + i * SLOT_BYTES);
+    for (uint32_t tid = 1; tid <= k->used; tid++)
+        task_write(&k->task[tid], image + (tid - 1) * SLOT_BYTES);
+    for (uint32_t p = 0; p < PRIORITIES; p++)
+        places_write(k, &k->ready[p], image);
+    for (uint32_t tid = 1; tid <= k->used; tid++)
+        places_write(k, &k->task[tid].senders, image);
 }
 
 struct request request_read(const uint8_t *record)
 {
-    struct request q = {get_signed(record), {0}};
-    for (int i = 0; i < 5; i++)
-        q.arg[i] = get_signed(record + 4 + 4 * i);
+    struct request q;
+
+    q.kind = get_signed32(record);
+    for (uint32_t i = 0; i < 5; i++)
+        q.arg[i] = get_signed32(record + 4 + 4 * i);
     return q;
 }
 
 void request_write(const struct request *q, uint8_t *record)
 {
-    put4(record, (uint32_t)q->kind);
-    for (int i = 0; i < 5; i++)
-        put4(record + 4 + 4 * i, (uint32_t)q->arg[i]);
+    put32(record, (uint32_t)q->kind);
+    for (uint32_t i = 0; i < 5; i++)
+        put32(record + 4 + 4 * i, (uint32_t)q->arg[i]);
 }
 
-static void answer_write(const struct answer *a, uint8_t *b)
+static void answer_write(const struct answer *a, uint8_t *bytes)
 {
-    put4(b, a->verdict);
-    put4(b + 4, a->next);
-    put4(b + 8, a->result.kind);
-    put4(b + 12, (uint32_t)a->result.number);
-    put4(b + 16, a->result.from);
-}
-
-/* ---- the byte entry ---- */
-
-uint32_t peer_start(uint32_t priority, uint8_t *image, uint64_t image_len)
-{
-    struct table k;
-    if (image_len != IMAGE_BYTES)
-        return 7;
-    uint32_t verdict = table_start(&k, priority);
-    table_write(&k, image);
-    return verdict;
+    put32(bytes, a->verdict);
+    put32(bytes + 4, a->next);
+    put32(bytes + 8, a->result.kind);
+    put32(bytes + 12, (uint32_t)a->result.number);
+    put32(bytes + 16, a->result.from);
 }
 
 uint32_t peer_step(uint8_t *image, uint64_t image_len,
@@ -329,36 +343,52 @@ uint32_t peer_step(uint8_t *image, uint64_t image_len,
                    const uint8_t *record, uint64_t record_len,
                    uint8_t *answer, uint64_t answer_len)
 {
+    struct answer a = { 0, 0, { RESULT_NOTHING, 0, 0 } };
     struct table k;
-    struct answer a = {0, 0, {NOTHING, 0, 0}};
-    if (answer_len != ANSWER_BYTES) {
-        HIT(REFUSAL_10);
-        HIT_IF(record_len != RECORD_BYTES, ORDER_10_5);
-        return 10;
-    }
+
+    MARK_IF(answer_len != ANSWER_BYTES, REFUSAL_10);
+    MARK_IF(answer_len != ANSWER_BYTES && record_len != RECORD_BYTES, ORDER_10_5);
+    if (answer_len != ANSWER_BYTES)
+        return REFUSED_ANSWER;
     if (record_len != RECORD_BYTES) {
-        HIT(REFUSAL_5);
-        HIT_IF(image_len != IMAGE_BYTES, ORDER_5_7);
-        a.verdict = 5;
+        MARK(REFUSAL_5);
+        MARK_IF(image_len != IMAGE_BYTES, ORDER_5_7);
+        a.verdict = REFUSED_RECORD;
     } else if (image_len != IMAGE_BYTES) {
-        HIT(REFUSAL_7);
-        HIT_IF(areas_len != AREAS_BYTES, ORDER_7_1);
-        a.verdict = 7;
+        MARK(REFUSAL_7);
+        MARK_IF(areas_len != AREAS_BYTES, ORDER_7_1);
+        a.verdict = REFUSED_IMAGE;
     } else if (areas_len != AREAS_BYTES) {
-        HIT(REFUSAL_1);
-        HIT_IF(!table_read(&k, image), ORDER_1_2);
-        a.verdict = 1;
+        MARK(REFUSAL_1);
+        MARK_IF(!table_read(&k, image), ORDER_1_2);
+        a.verdict = REFUSED_AREAS;
     } else if (!table_read(&k, image)) {
-        HIT(REFUSAL_2);
-        HIT_RULE();
-        HIT_IF(get_signed(record) < 1 || get_signed(record) > 11, ORDER_2_3);
-        a.verdict = 2;
+        MARK(REFUSAL_2);
+        MARK_RULE();
+        MARK_IF(get32(record) - 1 >= KIND_OWN_WRITE, ORDER_2_3);
+        a.verdict = REFUSED_TABLE;
     } else {
         struct request q = request_read(record);
+
         a = table_step(&k, areas, &q);
         if (a.verdict == 0)
             table_write(&k, image);
     }
     answer_write(&a, answer);
     return a.verdict;
+}
+
+uint32_t peer_start(uint32_t priority, uint8_t *image, uint64_t image_len)
+{
+    struct table k;
+    uint32_t refusal = table_start(&k, priority);
+
+    MARK_IF(refusal != 0 && image_len != IMAGE_BYTES, START_6_7);
+    if (refusal != 0)
+        return refusal;
+    MARK_IF(image_len != IMAGE_BYTES, START_7);
+    if (image_len != IMAGE_BYTES)
+        return REFUSED_IMAGE;
+    table_write(&k, image);
+    return 0;
 }

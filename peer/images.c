@@ -24,7 +24,7 @@ static void put4(uint8_t *b, int32_t n)
 static uint32_t used(const uint8_t *image)
 {
     uint32_t n = 0;
-    while (n < TASKS && image[n * SLOT_BYTES] != UNUSED)
+    while (n < TASKS && image[n * SLOT_BYTES] != STATE_UNUSED)
         n++;
     return n;
 }
@@ -46,10 +46,11 @@ static void put_room(uint64_t *s, uint8_t *b)
 static void put_result(uint64_t *s, uint8_t *b, uint32_t n)
 {
     b[5] = (uint8_t)below(s, 3);
-    b[14] = b[5] == VALUE && chance(s, 60) ? (uint8_t)below(s, n + 1) : 0;
-    if (b[5] == VALUE)
+    b[14] = b[5] == RESULT_VALUE && chance(s, 60)
+                ? (uint8_t)below(s, n + 1) : 0;
+    if (b[5] == RESULT_VALUE)
         put4(b + 16, chance(s, 20) ? INT32_MAX : (int32_t)below(s, 300));
-    if (b[5] == FAULT)
+    if (b[5] == RESULT_FAULT)
         put4(b + 16, -1 - (int32_t)below(s, 3));
 }
 
@@ -59,7 +60,7 @@ static uint8_t free_target(uint64_t *s, uint8_t *image, uint32_t n, uint32_t i)
     uint32_t start = chance(s, 50) ? 0 : below(s, n);
     for (uint32_t j = 0; j < n; j++) {
         uint32_t t = (start + j) % n;
-        if (t != i && slot(image, t)[0] != SEND_BLOCKED)
+        if (t != i && slot(image, t)[0] != STATE_SEND_BLOCKED)
             return (uint8_t)(t + 1);
     }
     return 0;
@@ -69,15 +70,15 @@ static void put_fields(uint64_t *s, uint8_t *image, uint32_t n, uint32_t i,
                        uint8_t *events)
 {
     uint8_t *b = slot(image, i);
-    if (b[0] == RECEIVE_BLOCKED && !(b[4] = free_target(s, image, n, i)))
-        b[0] = EXITED;
-    if (b[0] == SEND_BLOCKED || b[0] == RECEIVE_BLOCKED)
+    if (b[0] == STATE_RECEIVE_BLOCKED && !(b[4] = free_target(s, image, n, i)))
+        b[0] = STATE_EXITED;
+    if (b[0] == STATE_SEND_BLOCKED || b[0] == STATE_RECEIVE_BLOCKED)
         put_room(s, b + 6);
-    if (b[0] == RECEIVE_BLOCKED || b[0] == REPLY_BLOCKED)
+    if (b[0] == STATE_RECEIVE_BLOCKED || b[0] == STATE_REPLY_BLOCKED)
         put_room(s, b + 10);
-    if (b[0] == READY)
+    if (b[0] == STATE_READY)
         put_result(s, b, n);
-    if (b[0] == EVENT_BLOCKED) {
+    if (b[0] == STATE_EVENT_BLOCKED) {
         do
             b[4] = (uint8_t)below(s, EVENTS);
         while (events[b[4]]);
@@ -96,9 +97,9 @@ static void put_places(uint64_t *s, uint8_t *image, uint32_t n)
     }
     for (uint32_t i = 0; i < n; i++) {
         uint8_t *b = slot(image, order[i]);
-        if (b[0] == READY)
+        if (b[0] == STATE_READY)
             b[3] = ready[b[1]]++;
-        if (b[0] == RECEIVE_BLOCKED)
+        if (b[0] == STATE_RECEIVE_BLOCKED)
             b[3] = sending[b[4]]++;
     }
 }
@@ -113,11 +114,11 @@ void image_invent(uint64_t *s, uint8_t *image)
     memset(image, 0, IMAGE_BYTES);
     for (uint32_t i = 0; i < n; i++) {
         uint8_t *b = slot(image, i);
-        b[0] = (uint8_t)(READY + below(s, 6));
+        b[0] = (uint8_t)(STATE_READY + below(s, 6));
         if (i == active)
-            b[0] = ACTIVE;
-        else if (b[0] == READY && !busy)
-            b[0] = EXITED;
+            b[0] = STATE_ACTIVE;
+        else if (b[0] == STATE_READY && !busy)
+            b[0] = STATE_EXITED;
         b[1] = (uint8_t)(below(s, spread) * (PRIORITIES / spread));
         b[2] = (uint8_t)(i == 0 ? 0 : 1 + below(s, i));
     }
@@ -130,10 +131,11 @@ void image_invent(uint64_t *s, uint8_t *image)
 
 enum {
     ANY = 0xFE,
-    IS_ACTIVE = 1 << ACTIVE, IS_READY = 1 << READY,
-    IS_WAITING = 1 << SEND_BLOCKED, IS_SENDING = 1 << RECEIVE_BLOCKED,
-    IS_REPLY = 1 << REPLY_BLOCKED, IS_EVENT = 1 << EVENT_BLOCKED,
-    IS_EXITED = 1 << EXITED
+    IS_ACTIVE = 1 << STATE_ACTIVE, IS_READY = 1 << STATE_READY,
+    IS_WAITING = 1 << STATE_SEND_BLOCKED,
+    IS_SENDING = 1 << STATE_RECEIVE_BLOCKED,
+    IS_REPLY = 1 << STATE_REPLY_BLOCKED, IS_EVENT = 1 << STATE_EVENT_BLOCKED,
+    IS_EXITED = 1 << STATE_EXITED
 };
 
 /* A slot in one of the states; each state gets the same chance first. */
@@ -208,19 +210,20 @@ static void damage_result(uint64_t *s, uint8_t *image)
     else if (i == 1)
         set_result(b, (uint8_t)(1 + below(s, 2)), 0, 0);
     else if (i == 2)
-        set_result(b, NOTHING, 0, nonzero(s));
+        set_result(b, RESULT_NOTHING, 0, nonzero(s));
     else if (i == 3)
-        set_result(b, NOTHING, 1 << below(s, 31), 0);
+        set_result(b, RESULT_NOTHING, 1 << below(s, 31), 0);
     else if (i == 4)
-        set_result(b, VALUE, INT32_MIN + (int32_t)(draw(s) & INT32_MAX),
+        set_result(b, RESULT_VALUE, INT32_MIN + (int32_t)(draw(s) & INT32_MAX),
                    from);
     else if (i == 5)
-        set_result(b, VALUE, 7, n + 1 + (chance(s, 50) ? 0 : below(s, 223)));
+        set_result(b, RESULT_VALUE, 7,
+                   n + 1 + (chance(s, 50) ? 0 : below(s, 223)));
     else if (i == 6)
-        set_result(b, FAULT, bad_fault[below(s, 10)], 0);
+        set_result(b, RESULT_FAULT, bad_fault[below(s, 10)], 0);
     else
-        set_result(b, FAULT, -1 - (int32_t)below(s, 3), 1 + from);
-    if (i == 1 && b[5] == FAULT)
+        set_result(b, RESULT_FAULT, -1 - (int32_t)below(s, 3), 1 + from);
+    if (i == 1 && b[5] == RESULT_FAULT)
         put4(b + 16, -1 - (int32_t)below(s, 3));
 }
 
@@ -284,7 +287,7 @@ static void damage_place(uint64_t *s, uint8_t *image)
         a[3] = b[3];
         break;
     default:                     /* leaves its queue, joins another */
-        a[a[0] == READY ? 1 : 4] = (uint8_t)(1 + below(s, 31));
+        a[a[0] == STATE_READY ? 1 : 4] = (uint8_t)(1 + below(s, 31));
         break;
     }
 }
@@ -296,13 +299,13 @@ static void damage_whole(uint64_t *s, uint8_t *image)
     uint8_t *b = find(s, image, i == 1 ? IS_ACTIVE : i == 2 ? IS_SENDING
                       : IS_WAITING | IS_REPLY | IS_EVENT | IS_EXITED);
     if (i == 0 && b) {
-        remake(b, ACTIVE);
+        remake(b, STATE_ACTIVE);
     } else if (i == 1 && b) {
-        remake(b, EXITED);
+        remake(b, STATE_EXITED);
     } else if (i == 2 && b && b[4] >= 1 && b[4] <= TASKS) {
         b = slot(image, b[4] - 1u);
-        if (b[0] >= REPLY_BLOCKED)
-            remake(b, SEND_BLOCKED);
+        if (b[0] >= STATE_REPLY_BLOCKED)
+            remake(b, STATE_SEND_BLOCKED);
     } else if (i == 3 && n < TASKS) {
         b = slot(image, n + below(s, TASKS - n));
         b[at] = nonzero(s);

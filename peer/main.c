@@ -1,180 +1,174 @@
-/* The two jobs that are compared, and in a -DCOVER build the counts. */
-#include <stdio.h>
-#include <string.h>
-
-#include "cover.h"
+/* The two jobs: "run", the program of document 01's first run, and "cases",
+   which shows what the byte entry does with bytes of any kind. */
 #include "kernel.h"
 
+#include <inttypes.h>
+#include <stdio.h>
+#include <string.h>
+#include "cover.h"
+
 enum {
-    CHUNK = 16384,       /* the longest chunk a case may hold */
-    BLOCK = 512,         /* records read at once */
-    LINE = 96            /* longer than any line of a run */
+    BLOCK_RECORDS = 2048,
+    STREAM_BLOCK = 65536,
+    CHUNK_MAX = 16384,
+    LENGTH_BYTES = 4
 };
 
-/* ---- run ---- */
-
-static char *put_unsigned(char *to, uint64_t n)
+static int complain(const char *what)
 {
-    char digits[20];
-    int count = 0;
-    do
-        digits[count++] = (char)('0' + n % 10);
-    while (n /= 10);
-    while (count > 0)
-        *to++ = digits[--count];
-    return to;
+    fprintf(stderr, "peer: %s\n", what);
+    return 1;
 }
 
-static char *put_signed(char *to, int64_t n)
+/* Output is held back in blocks, so its errors may show only here. */
+static int finish(void)
 {
-    if (n < 0)
-        *to++ = '-';
-    return put_unsigned(to, (uint64_t)(n < 0 ? -n : n));
+    if (fflush(stdout) != 0 || ferror(stdout))
+        return complain("cannot write the output");
+    return 0;
 }
 
-static char *put_line(char *to, uint64_t step, int32_t kind, struct answer a)
+static void print_step(uint64_t step, const struct request *q,
+                       const struct answer *a)
 {
-    to = put_unsigned(to, step);
-    *to++ = ' ';
-    to = put_signed(to, kind);
-    if (a.verdict) {
-        *to++ = ' ';
-        *to++ = 'R';
-        to = put_unsigned(to, a.verdict);
-    } else {
-        memcpy(to, " ok", 3);
-        to += 3;
-    }
-    *to++ = ' ';
-    to = put_unsigned(to, a.next);
-    memcpy(to, a.result.kind == NOTHING ? " -"
-               : a.result.kind == VALUE ? " v " : " e ", 3);
-    to += a.result.kind == NOTHING ? 2 : 3;
-    if (a.result.kind != NOTHING)
-        to = put_signed(to, a.result.number);
-    if (a.result.kind == VALUE) {
-        *to++ = ' ';
-        to = put_unsigned(to, a.result.from);
-    }
-    *to++ = '\n';
-    return to;
+    printf("%" PRIu64 " %" PRId32 " ", step, q->kind);
+    if (a->verdict == 0)
+        printf("ok");
+    else
+        printf("R%" PRIu32, a->verdict);
+    printf(" %" PRIu32 " ", a->next);
+    if (a->result.kind == RESULT_VALUE)
+        printf("v %" PRId32 " %" PRIu32 "\n", a->result.number,
+               a->result.from);
+    else if (a->result.kind == RESULT_FAULT)
+        printf("e %" PRId32 "\n", a->result.number);
+    else
+        printf("-\n");
 }
 
 static int run(void)
 {
-    static struct table k;
-    static uint8_t areas[AREAS_BYTES], in[BLOCK * RECORD_BYTES];
-    static char out[BLOCK * LINE];
+    uint8_t block[BLOCK_RECORDS * RECORD_BYTES];
+    uint8_t areas[AREAS_BYTES] = { 0 };
+    struct table k;
     uint64_t step = 0;
     size_t got;
+
     table_start(&k, FIRST_PRIORITY);
     do {
-        got = fread(in, 1, sizeof in, stdin);
-        char *to = out;
-        for (size_t i = 0; i + RECORD_BYTES <= got; i += RECORD_BYTES) {
-            struct request q = request_read(in + i);
-            to = put_line(to, ++step, q.kind, table_step(&k, areas, &q));
-        }
-        fwrite(out, 1, (size_t)(to - out), stdout);
-    } while (got == sizeof in);
-    /* only the last block can be short, so a rest is an incomplete record */
-    if (got % RECORD_BYTES != 0) {
-        HIT(END_R5);
-        fputs("end R5\n", stdout);
-    }
-    return 0;
-}
+        got = fread(block, 1, sizeof block, stdin);
+        for (size_t i = 0; i < got / RECORD_BYTES; i++) {
+            struct request q = request_read(block + i * RECORD_BYTES);
+            struct answer a = table_step(&k, areas, &q);
 
-/* ---- cases ---- */
+            print_step(++step, &q, &a);
+        }
+    } while (got == sizeof block);
+    if (ferror(stdin)) {
+        fflush(stdout);
+        return complain("cannot read the input");
+    }
+    MARK_IF(got % RECORD_BYTES != 0, END_R5);
+    if (got % RECORD_BYTES != 0)
+        printf("end R5\n");
+    return finish();
+}
 
 struct chunk {
     uint32_t length;
-    uint8_t bytes[CHUNK];
+    uint8_t bytes[CHUNK_MAX];
 };
 
-static void put_word(uint32_t n)
+struct test_case {
+    struct chunk image, areas, record, answer;
+};
+
+static uint32_t length_read(const uint8_t *b)
 {
-    uint8_t b[4] = {(uint8_t)n, (uint8_t)(n >> 8), (uint8_t)(n >> 16),
-                    (uint8_t)(n >> 24)};
+    return (uint32_t)b[0] | (uint32_t)b[1] << 8 | (uint32_t)b[2] << 16
+         | (uint32_t)b[3] << 24;
+}
+
+static void number_print(uint32_t u)
+{
+    uint8_t b[LENGTH_BYTES] = { (uint8_t)u, (uint8_t)(u >> 8),
+                                (uint8_t)(u >> 16), (uint8_t)(u >> 24) };
+
     fwrite(b, 1, sizeof b, stdout);
 }
 
-/* NULL if the chunk is whole, else what is wrong with it. An end before any
- * byte came is the empty text; only the first chunk of a case may end so. */
-static const char *get_chunk(struct chunk *c)
+static void chunk_print(const struct chunk *c)
 {
-    uint8_t b[4];
-    size_t got = fread(b, 1, sizeof b, stdin);
-    if (got == 0)
-        return "";
-    if (got != sizeof b)
-        return "a length is cut short";
-    c->length = b[0] | (uint32_t)b[1] << 8 | (uint32_t)b[2] << 16 |
-                (uint32_t)b[3] << 24;
-    if (c->length > CHUNK)
-        return "a chunk is longer than 16384";
+    number_print(c->length);
+    fwrite(c->bytes, 1, c->length, stdout);
+}
+
+/* Returns NULL, or what is wrong with the chunk. *at_end says that the input
+   was over before its first byte. */
+static const char *chunk_read(struct chunk *c, bool *at_end)
+{
+    uint8_t length[LENGTH_BYTES];
+    size_t got = fread(length, 1, sizeof length, stdin);
+
+    *at_end = got == 0 && !ferror(stdin);
+    if (got != sizeof length)
+        return "the last case is cut short";
+    c->length = length_read(length);
+    if (c->length > CHUNK_MAX)
+        return "a chunk is longer than 16384 bytes";
     if (fread(c->bytes, 1, c->length, stdin) != c->length)
-        return "a chunk is cut short";
+        return "the last case is cut short";
     return NULL;
+}
+
+static const char *case_read(struct test_case *c, bool *over)
+{
+    bool at_end; /* inside a case the end of the input is no good end */
+    const char *wrong = chunk_read(&c->image, over);
+
+    if (wrong == NULL)
+        wrong = chunk_read(&c->areas, &at_end);
+    if (wrong == NULL)
+        wrong = chunk_read(&c->record, &at_end);
+    if (wrong == NULL)
+        wrong = chunk_read(&c->answer, &at_end);
+    return wrong;
 }
 
 static int cases(void)
 {
-    static struct chunk c[4];
-    for (unsigned long number = 1;; number++) {
-        for (int i = 0; i < 4; i++) {
-            const char *wrong = get_chunk(&c[i]);
-            if (wrong && *wrong == '\0' && i == 0)
-                return 0;
-            if (wrong) {
-                HIT(c[i].length > CHUNK ? CASE_LONG : CASE_CUT);
-                fflush(stdout);
-                fprintf(stderr, "peer: case %lu: %s\n", number,
-                        *wrong ? wrong : "a chunk is missing");
-                return 0;
-            }
-        }
-        put_word(peer_step(c[0].bytes, c[0].length, c[1].bytes, c[1].length,
-                           c[2].bytes, c[2].length, c[3].bytes, c[3].length));
-        for (int i = 0; i < 4; i++) {
-            put_word(c[i].length);
-            fwrite(c[i].bytes, 1, c[i].length, stdout);
-        }
+    struct test_case c;
+    const char *wrong;
+    bool over;
+
+    setvbuf(stdin, NULL, _IOFBF, STREAM_BLOCK);
+    while ((wrong = case_read(&c, &over)) == NULL) {
+        uint32_t verdict = peer_step(c.image.bytes, c.image.length,
+                                     c.areas.bytes, c.areas.length,
+                                     c.record.bytes, c.record.length,
+                                     c.answer.bytes, c.answer.length);
+
+        number_print(verdict);
+        chunk_print(&c.image);
+        chunk_print(&c.areas);
+        chunk_print(&c.record);
+        chunk_print(&c.answer);
     }
-}
-
-static int usage(void)
-{
-    fputs("usage: peer run    request records in, one line each out\n"
-          "       peer cases  cases of the byte entry in, what they give out\n",
-          stderr);
-    return 2;
-}
-
-static int job(const char *name)
-{
-    if (strcmp(name, "run") == 0)
-        return run();
-    if (strcmp(name, "cases") == 0)
-        return cases();
-    return usage();
+    if (over)
+        return finish();
+    MARK(strstr(wrong, "cut") != NULL ? CASE_CUT : CASE_LONG);
+    fflush(stdout); /* the cases before the bad one; one complaint is enough */
+    return complain(ferror(stdin) ? "cannot read the input" : wrong);
 }
 
 int main(int argc, char **argv)
 {
-    static char in[1 << 16], out[1 << 16];
-    if (argc != 2)
-        return usage();
-    setvbuf(stdin, in, _IOFBF, sizeof in);
-    setvbuf(stdout, out, _IOFBF, sizeof out);
-#ifdef COVER
-    cover_load();
-    if (strcmp(argv[1], "cover") == 0)
-        return cover_print();
-    int status = job(argv[1]);
-    cover_save();
-    return status;
-#else
-    return job(argv[1]);
-#endif
+    MARK_PROGRAM(argc, argv);
+    setvbuf(stdout, NULL, _IOFBF, STREAM_BLOCK);
+    if (argc == 2 && strcmp(argv[1], "run") == 0)
+        return run();
+    if (argc == 2 && strcmp(argv[1], "cases") == 0)
+        return cases();
+    fprintf(stderr, "usage: peer run|cases\n");
+    return 2;
 }

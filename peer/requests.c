@@ -1,5 +1,4 @@
 /* Chooses requests by looking at the kernel they will meet. */
-#include <stddef.h>
 #include <string.h>
 
 #include "generate.h"
@@ -43,27 +42,34 @@ void world_start(struct world *w, uint64_t seed, uint32_t priority)
     world_habits(w);
 }
 
-static struct task *some_task(struct world *w, enum state state)
+/* The tid of a task in this state, else 0. */
+static uint32_t some_task(struct world *w, enum state state)
 {
     uint32_t start = below(&w->seed, w->table.used);
     for (uint32_t i = 0; i < w->table.used; i++) {
-        struct task *t = &w->table.tasks[(start + i) % w->table.used];
-        if (t->state == state)
-            return t;
+        uint32_t tid = 1 + (start + i) % w->table.used;
+        if (w->table.task[tid].state == state)
+            return tid;
     }
-    return NULL;
+    return 0;
+}
+
+static bool is(const struct table *k, uint32_t tid, enum state state)
+{
+    return k->task[tid].state == state;
 }
 
 /* Tasks that can never go on: queued at one that exited, or in a ring. */
 static uint32_t stuck(const struct table *k)
 {
     uint32_t count = 0;
-    for (uint32_t i = 0; i < k->used; i++) {
-        const struct task *t = &k->tasks[i];
-        for (int hops = 0; hops < TASKS && t->state == RECEIVE_BLOCKED; hops++)
-            t = t->target;
-        count += t != &k->tasks[i] && (t->state == RECEIVE_BLOCKED ||
-                                       t->state == EXITED);
+    for (uint32_t tid = 1; tid <= k->used; tid++) {
+        uint32_t t = tid;
+        for (int hops = 0; hops < TASKS && is(k, t, STATE_RECEIVE_BLOCKED);
+             hops++)
+            t = k->task[t].waits_for;
+        count += t != tid && (is(k, t, STATE_RECEIVE_BLOCKED) ||
+                              is(k, t, STATE_EXITED));
     }
     return count;
 }
@@ -73,8 +79,8 @@ bool world_dead(const struct table *k)
 {
     if (k->active)
         return false;
-    for (uint32_t i = 0; i < k->used; i++)
-        if (k->tasks[i].state == EVENT_BLOCKED)
+    for (uint32_t tid = 1; tid <= k->used; tid++)
+        if (is(k, tid, STATE_EVENT_BLOCKED))
             return false;
     return true;
 }
@@ -115,45 +121,45 @@ static void room(struct world *w, int32_t *arg)
 }
 
 /* Would a Send to this task wait for the caller itself? */
-static bool closes_ring(const struct table *k, const struct task *t)
+static bool closes_ring(const struct table *k, uint32_t t)
 {
-    for (int hops = 0; hops < TASKS && t->state == RECEIVE_BLOCKED; hops++) {
-        if (t->target == k->active)
+    for (int hops = 0; hops < TASKS && is(k, t, STATE_RECEIVE_BLOCKED);
+         hops++) {
+        t = k->task[t].waits_for;
+        if (t == k->active)
             return true;
-        t = t->target;
     }
-    return t->state == RECEIVE_BLOCKED || t->state == EXITED;
+    return is(k, t, STATE_RECEIVE_BLOCKED) || is(k, t, STATE_EXITED);
 }
 
 static int32_t send_target(struct world *w)
 {
     uint64_t *s = &w->seed;
-    struct table *k = &w->table;
-    struct task *t;
-    uint32_t style = below(s, 100);
+    const struct table *k = &w->table;
+    uint32_t t, style = below(s, 100);
     if (style < 3)
         return PICK(s, 0, -1, 32, 33, (int32_t)k->used + 1, INT32_MAX,
-                    INT32_MIN, 256 + 1, (int32_t)k->active->tid);
-    if (style < 7 && (t = some_task(w, EXITED)))
-        return t->tid;
-    if (style < 40 && (t = some_task(w, SEND_BLOCKED)))
-        return t->tid;
-    if (style < 70 && w->hot <= k->used && w->hot != k->active->tid &&
-        !closes_ring(k, &k->tasks[w->hot - 1]))
+                    INT32_MIN, 256 + 1, (int32_t)k->active);
+    if (style < 7 && (t = some_task(w, STATE_EXITED)))
+        return (int32_t)t;
+    if (style < 40 && (t = some_task(w, STATE_SEND_BLOCKED)))
+        return (int32_t)t;
+    if (style < 70 && w->hot <= k->used && w->hot != k->active &&
+        !closes_ring(k, w->hot))
         return (int32_t)w->hot;
-    t = &k->tasks[below(s, k->used)];
+    t = 1 + below(s, k->used);
     for (int tries = 0; tries < 8 && (t == k->active || closes_ring(k, t));
          tries++)
-        t = &k->tasks[below(s, k->used)];
-    return t->tid;
+        t = 1 + below(s, k->used);
+    return (int32_t)t;
 }
 
 static int32_t reply_target(struct world *w)
 {
     uint64_t *s = &w->seed;
-    struct task *t = some_task(w, REPLY_BLOCKED);
+    uint32_t t = some_task(w, STATE_REPLY_BLOCKED);
     if (t && chance(s, 90))
-        return t->tid;
+        return (int32_t)t;
     if (chance(s, 30))
         return PICK(s, 0, -1, 32, 33, (int32_t)w->table.used + 1, INT32_MAX);
     return 1 + (int32_t)below(s, w->table.used);
@@ -170,9 +176,9 @@ static int32_t new_priority(struct world *w)
 
 static int32_t some_event(struct world *w, uint32_t waited)
 {
-    struct task *t = some_task(w, EVENT_BLOCKED);
+    uint32_t t = some_task(w, STATE_EVENT_BLOCKED);
     if (t && chance(&w->seed, waited))
-        return t->event;
+        return (int32_t)w->table.task[t].waits_for;
     if (chance(&w->seed, 5))
         return PICK(&w->seed, 63, 64, -1, INT32_MAX, INT32_MIN, 65);
     return (int32_t)below(&w->seed, EVENTS);
@@ -189,30 +195,30 @@ static void fill(struct world *w, struct request *q)
 {
     uint64_t *s = &w->seed;
     switch (q->kind) {
-    case CREATE:
+    case KIND_CREATE:
         q->arg[0] = chance(s, 4) ? PICK(s, -1, 32, 0, 31, 255, INT32_MIN)
                                  : new_priority(w);
         break;
-    case SEND:
+    case KIND_SEND:
         q->arg[0] = send_target(w);
         room(w, q->arg + 1);
         room(w, q->arg + 3);
         break;
-    case RECEIVE:
+    case KIND_RECEIVE:
         room(w, q->arg);
         break;
-    case REPLY:
+    case KIND_REPLY:
         q->arg[0] = reply_target(w);
         room(w, q->arg + 1);
         break;
-    case AWAIT_EVENT:
+    case KIND_AWAIT_EVENT:
         q->arg[0] = some_event(w, 15);
         break;
-    case EVENT:
+    case KIND_EVENT:
         q->arg[0] = some_event(w, 75);
         q->arg[1] = some_data(w);
         break;
-    case OWN_WRITE:
+    case KIND_OWN_WRITE:
         q->arg[0] = chance(s, 10) ? PICK(s, 255, 256, -1, INT32_MAX)
                                   : (int32_t)below(s, AREA);
         q->arg[1] = chance(s, 10) ? PICK(s, 255, 256, -1, INT32_MIN)
@@ -230,16 +236,17 @@ static int32_t busy_kind(struct world *w)
     uint32_t weight[12] = {0, 2, 3, 4, 6, 0, 0, 0, 4, 5, 12, 6};
     uint32_t sum = 0;
     if (w->table.used < TASKS)
-        weight[CREATE] = w->creates;
-    weight[EXIT] = w->exits;
-    if (some_task(w, REPLY_BLOCKED))
-        weight[REPLY] = 24;
-    weight[SEND] = w->sends;
-    weight[RECEIVE] = w->table.active->senders.head ? 40 : 1 + w->sends / 2;
-    for (int i = CREATE; i <= OWN_WRITE; i++)
+        weight[KIND_CREATE] = w->creates;
+    weight[KIND_EXIT] = w->exits;
+    if (some_task(w, STATE_REPLY_BLOCKED))
+        weight[KIND_REPLY] = 24;
+    weight[KIND_SEND] = w->sends;
+    weight[KIND_RECEIVE] = w->table.task[w->table.active].senders.length > 0
+                               ? 40 : 1 + w->sends / 2;
+    for (int i = KIND_CREATE; i <= KIND_OWN_WRITE; i++)
         sum += weight[i];
     uint32_t at = below(&w->seed, sum);
-    int32_t kind = CREATE;
+    int32_t kind = KIND_CREATE;
     while (at >= weight[kind])
         at -= weight[kind++];
     return kind;
@@ -248,8 +255,8 @@ static int32_t busy_kind(struct world *w)
 /* While idle only an event does anything. */
 static int32_t idle_kind(struct world *w)
 {
-    return chance(&w->seed, 85) ? EVENT
-                                : 1 + (int32_t)below(&w->seed, OWN_WRITE);
+    return chance(&w->seed, 85) ? KIND_EVENT
+                                : 1 + (int32_t)below(&w->seed, KIND_OWN_WRITE);
 }
 
 static void spoil(struct world *w, struct request *q)
@@ -285,7 +292,7 @@ struct request world_choose(struct world *w)
         for (int i = 0; i < 5; i++)
             q.arg[i] = odd_number(&w->seed);
     q.kind = w->table.active ? busy_kind(w) : idle_kind(w);
-    if (w->table.active || q.kind >= EVENT)
+    if (w->table.active || q.kind >= KIND_EVENT)
         fill(w, &q);
     if (chance(&w->seed, 10))
         spoil(w, &q);
@@ -297,17 +304,16 @@ struct request world_choose(struct world *w)
 struct request world_live(struct world *w)
 {
     static struct table copy;
-    static uint8_t image[IMAGE_BYTES], areas[AREAS_BYTES];
+    static uint8_t areas[AREAS_BYTES];
     struct request q = world_choose(w);
     if (w->mortal || world_dead(&w->table))
         return q;
-    table_write(&w->table, image);
     for (int tries = 0; tries < 50; tries++) {
-        if (!table_read(&copy, image))
-            return q;
+        copy = w->table;
         table_step(&copy, areas, &q);
-        if (!world_dead(&copy) && (stuck(&copy) <= stuck(&w->table) ||
-                                   chance(&w->seed, q.kind == EXIT ? 25 : 3)))
+        if (!world_dead(&copy) &&
+            (stuck(&copy) <= stuck(&w->table) ||
+             chance(&w->seed, q.kind == KIND_EXIT ? 25 : 3)))
             break;
         q = world_choose(w);
     }

@@ -107,7 +107,7 @@ module _ (n : ℕ) (bytes : List ℕ) where
   kept-senders zero = kept-none place n n
   kept-senders (suc m) = kept-more (kept-senders m) _ m
 
-  task-read : (m s : ℕ) → m ≤ n → s < m → taskAt (tableUpTo n bytes m) s ≡ taskFrom (recordAt recordLength bytes s)
+  pub task-read : (m s : ℕ) → m ≤ n → s < m → taskAt (tableUpTo n bytes m) s ≡ taskFrom (recordAt recordLength bytes s)
   unfolding tableUpTo withStored
   task-read zero s h l = absurd (omega arith)
   task-read (suc m) s h l =

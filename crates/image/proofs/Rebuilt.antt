@@ -23,7 +23,7 @@ use Rattle.task.specs.Result.{negated, resultWord}
 use Rattle.image.specs.Told.{toldOf}
 use Rattle.image.specs.Record.{recordLength, atState, atPriority, atParent, atPlace, atAwaited, atResult, atMessage, atReply, atFrom, atSpare, atWord, byteIn, bufferIn, bufferBytes, partsOf, partsIn, toldIn, stateFrom, outcomeFrom, fields, taskRecord, usedFrom, taskFrom, placeFrom}
 use Rattle.image.specs.Exact.{sameParts, sameTold, exactRest, exactUsed, exactRecord}
-use Rattle.image.proofs.Made.{record-made}
+use Rattle.image.proofs.Made.{record-made, eqb-same}
 use Rattle.image.proofs.Bytes.{number-back, same-true, same-refl}
 
 -- every element is a byte
@@ -109,18 +109,10 @@ same-told p q h =
     }
 
 same-parts-refl : (p : Parts) → sameParts p p ≡ true
-same-parts-refl p =
-    rw (
-      eq-eqb (p .code) (p .code) refl,
-      eq-eqb (p .awaited) (p .awaited) refl,
-      eq-eqb (p .message .start) (p .message .start) refl,
-      eq-eqb (p .message .len) (p .message .len) refl,
-      eq-eqb (p .reply .start) (p .reply .start) refl,
-      eq-eqb (p .reply .len) (p .reply .len) refl,
-    )
+same-parts-refl p = simp eqb-same
 
 same-told-refl : (p : Told) → sameTold p p ≡ true
-same-told-refl p = rw (eq-eqb (p .kind) (p .kind) refl, eq-eqb (p .from) (p .from) refl, eq-eqb (p .word) (p .word) refl)
+same-told-refl p = simp eqb-same
 
 -- the numbers of what was read fit their bytes
 record Fits (st : State) : Type 0 where

@@ -14,6 +14,7 @@ use task::task::Outcome;
 use task::task::State;
 use task::task::Task;
 ghost use mathlib.Core.Path.{_≡_};
+ghost use mathlib.Core.Bool.{_&&_};
 ghost use Prim.Native.Nat.{_+_, _≤_};
 ghost use lib.ListN.{length, getD};
 ghost use lib.Dec.{eqb};
@@ -217,21 +218,35 @@ fn outcome_from(told: Told) -> Outcome
     Outcome::Nothing
 }
 
-fn same_parts(p: Parts, q: Parts) -> bool
-    ensures { λ r. ⌜ r ≡ sameParts p q ⌝ }
+fn no_buffer(b: Buffer) -> bool
+    ensures { λ r. ⌜ r ≡ (eqb (b .start) 0 && eqb (b .len) 0) ⌝ }
 {
-    (p.code == q.code)
-        & (p.awaited == q.awaited)
-        & (p.message.start == q.message.start)
-        & (p.message.len == q.message.len)
-        & (p.reply.start == q.reply.start)
-        & (p.reply.len == q.reply.len)
+    (b.start == 0) & (b.len == 0)
 }
 
-fn same_told(p: Told, q: Told) -> bool
-    ensures { λ r. ⌜ r ≡ sameTold p q ⌝ }
+// Whether parts are those of the state that they give: the code is a state's, and what that state does not hold is 0.
+// The code is asked, since to take the state apart again would cost a second jump by its variant.
+fn exact_parts(p: Parts) -> bool
+    ensures { λ r. ⌜ r ≡ sameParts (partsOf (stateFrom p)) p ⌝ }
 {
-    (p.kind == q.kind) & (p.from == q.from) & (p.word == q.word)
+    let code = p.code;
+    let message = p.message;
+    let reply = p.reply;
+    let sends = code == RECEIVE_BLOCKED;
+    (code <= EXITED)
+        & (sends | (code == EVENT_BLOCKED) | (p.awaited == 0))
+        & (sends | (code == SEND_BLOCKED) | no_buffer(message))
+        & (sends | (code == REPLY_BLOCKED) | no_buffer(reply))
+}
+
+// Whether the numbers of a result are those of the outcome that they give; a value may be any word, from anyone.
+fn exact_told(t: Told) -> bool
+    ensures { λ r. ⌜ r ≡ sameTold (toldOf (outcomeFrom t)) t ⌝ }
+{
+    let kind = t.kind;
+    let nothing = (kind == NOTHING) & (t.word == 0);
+    let fault = (kind == FAULT) & (MINUS_ONE - 3 < t.word);
+    (kind == VALUE) | ((t.from == 0) & (nothing | fault))
 }
 
 // Whether a place stands only where the task stands in a queue, and the spare byte is 0.
@@ -294,9 +309,7 @@ pub(crate) fn entry_of(r: &[u8]) -> Entry
         parent: r[PARENT],
         outcome,
     };
-    let exact = same_parts(parts_of(state), parts)
-        & same_told(told_of(outcome), told)
-        & exact_rest(r);
+    let exact = exact_parts(parts) & exact_told(told) & exact_rest(r);
     Entry { task, exact }
 }
 

@@ -10,18 +10,16 @@ use kernel::numbers::BAD_IMAGE;
 use kernel::numbers::BAD_TABLE;
 use kernel::table::Table;
 use queue::Queue;
-use queue::slot;
 use queue::wide;
-use task::parts::EVENT_BLOCKED;
-use task::parts::READY;
-use task::parts::RECEIVE_BLOCKED;
+use rules::keys::event_key;
+use rules::keys::ready_key;
+use rules::keys::senders_key;
+use rules::placed::check_placed;
 use task::parts::UNUSED;
-use task::parts::awaited;
 use task::parts::state_code;
 use task::task::EVENTS;
 use task::task::PRIORITIES;
 use task::task::SLOTS;
-use task::task::Task;
 ghost use mathlib.Core.Path.{_≡_};
 ghost use Prim.Native.Nat.{_+_, _≤_, min, max};
 ghost use lib.ListN.{length, set};
@@ -29,9 +27,8 @@ ghost use lib.Seq.{paste};
 ghost use Rattle.queue.specs.Row.{places};
 ghost use Rattle.queue.specs.Placed.{placedRow};
 ghost use Rattle.rules.specs.Fresh.{unusedTable};
-ghost use Rattle.rules.specs.Good.{readyKey, sendersKey};
 ghost use Rattle.image.specs.Record.{recordLength};
-ghost use Rattle.image.specs.Image.{waitersKey, reading, givenImage, readImage, stored, writeVerdict, written};
+ghost use Rattle.image.specs.Image.{PlacesIn, reading, givenImage, readImage, stored, writeVerdict, written};
 ghost use Rattle.image.specs.Exact.{decodedOf};
 
 // How long an image is.
@@ -43,40 +40,6 @@ pub struct Reading {
     pub table: Table,
     pub active: usize,
     pub verdict: u8,
-}
-
-// The row or the event that a task belongs to, past the last where there is none.
-fn ready_key(x: Task) -> usize
-    ensures { λ r. ⌜ r ≡ readyKey x ⌝ }
-{
-    let state = x.state;
-    if state_code(state) == READY {
-        x.priority as usize
-    } else {
-        PRIORITIES
-    }
-}
-
-fn senders_key(x: Task) -> usize
-    ensures { λ r. ⌜ r ≡ sendersKey places x ⌝ }
-{
-    let state = x.state;
-    if state_code(state) == RECEIVE_BLOCKED {
-        slot(awaited(state))
-    } else {
-        SLOTS
-    }
-}
-
-fn waiters_key(x: Task) -> usize
-    ensures { λ r. ⌜ r ≡ waitersKey x ⌝ }
-{
-    let state = x.state;
-    if state_code(state) == EVENT_BLOCKED {
-        wide(awaited(state))
-    } else {
-        EVENTS
-    }
 }
 
 // A byte stored; past the end nothing is.
@@ -151,12 +114,28 @@ fn decode(bytes: &[u8]) -> Decoded
         if g < SLOTS {
             table.senders[g] = placed_row(table.senders[g], place, tid);
         }
-        let e = waiters_key(x);
+        let e = event_key(x);
         if e < EVENTS {
             table.waiters[e] = tid;
         }
     }
     Decoded { table, exact }
+}
+
+// The place of each slot, as its record has it; 0 where the bytes have no such record.
+fn places_in(bytes: &[u8]) -> [u8; SLOTS]
+    ensures { λ r. ⌜ PlacesIn places (now (bytes .entry)) r ⌝ }
+{
+    let mut at = [0; SLOTS];
+    let mut s = 0;
+    while s < SLOTS {
+        let p = s * RECORD + PLACE;
+        if p < bytes.len() {
+            at[s] = bytes[p];
+        }
+        s += 1;
+    }
+    at
 }
 
 // A record copied into an image.
@@ -238,7 +217,7 @@ pub fn given(bytes: &[u8]) -> Reading
 {
     let decoded = decode(bytes);
     let table = decoded.table;
-    let checked = rules::check(table);
+    let checked = check_placed(table, places_in(bytes));
     let mut verdict = BAD_TABLE;
     if checked.good & decoded.exact {
         verdict = ACCEPTED;

@@ -2,6 +2,10 @@
 use mathlib.Core.Path.{refl, _∙⁻¹_}
 use Rattle.queue.specs.Determined.{DeterminesResult}
 use Rattle.rules.proofs.check.Reads as check
+use Rattle.rules.proofs.placed.check_placed.Reads as check-placed
+use Rattle.rules.proofs.keys.ready_key.Reads as ready-key
+use Rattle.rules.proofs.keys.senders_key.Reads as senders-key
+use Rattle.rules.proofs.keys.event_key.Reads as event-key
 use Rattle.rules.proofs.unused_table.Reads as unused-table
 use Rattle.rules.proofs.start.Reads as start
 
@@ -13,3 +17,15 @@ unused-table-determined κs a r r′ s s′ p p′ = (p ∙⁻¹ p′, refl)
 
 start-determined : (κs : _) (a : _) → DeterminesResult (start.Post κs a)
 start-determined κs a r r′ s s′ p p′ = (p ∙⁻¹ p′, refl)
+
+check-placed-determined : (κs : _) (a : _) → DeterminesResult (check-placed.Post κs a)
+check-placed-determined κs a r r′ s s′ p p′ = (p ∙⁻¹ p′, refl)
+
+ready-key-determined : (κs : _) (a : _) → DeterminesResult (ready-key.Post κs a)
+ready-key-determined κs a r r′ s s′ p p′ = (p ∙⁻¹ p′, refl)
+
+senders-key-determined : (κs : _) (a : _) → DeterminesResult (senders-key.Post κs a)
+senders-key-determined κs a r r′ s s′ p p′ = (p ∙⁻¹ p′, refl)
+
+event-key-determined : (κs : _) (a : _) → DeterminesResult (event-key.Post κs a)
+event-key-determined κs a r r′ s s′ p p′ = (p ∙⁻¹ p′, refl)

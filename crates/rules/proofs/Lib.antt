@@ -8,3 +8,4 @@ pub mod Fresh
 pub mod Kept
 pub mod Walk
 mod Determined
+pub mod Made

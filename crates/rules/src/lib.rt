@@ -1,16 +1,18 @@
 // The rules of a table, whether a table keeps them, and the tables that a kernel starts from.
+pub mod keys;
+pub mod placed;
 mod slots;
 
 ghost use mathlib.Core.Path.{_≡_};
 ghost use Rattle.queue.specs.Row.{places};
 ghost use Rattle.rules.specs.Check.{checked};
 ghost use Rattle.rules.specs.Fresh.{unusedTable, started};
-use crate::slots::event_of;
+use crate::keys::event_key;
 use crate::slots::good_used;
 use crate::slots::idle;
 use crate::slots::none_left;
 use crate::slots::rest_unused;
-use crate::slots::senders_key;
+use crate::slots::target_slot;
 use kernel::numbers::ACCEPTED;
 use kernel::numbers::BAD_PRIORITY;
 use kernel::table::Table;
@@ -58,9 +60,9 @@ pub fn check(table: Table) -> Checked
             ready[s] = task.priority;
         }
         if code == RECEIVE_BLOCKED {
-            senders[s] = senders_key(state);
+            senders[s] = target_slot(state);
         }
-        let event = event_of(state);
+        let event = event_key(task);
         if event < EVENTS {
             good &= wide(waiters[event]) == s + 1;
             waiters[event] = 0;

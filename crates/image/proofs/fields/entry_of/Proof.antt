@@ -37,35 +37,26 @@ shared-slice-read-t9 c = search needs
 shared-slice-read-t15 : tie.Need-shared-slice-read-t15
 shared-slice-read-t15 c = search needs
 
-parts-of-requires : tie.Need-parts-of-requires
-parts-of-requires c κs = search needs
+exact-parts-requires : tie.Need-exact-parts-requires
+exact-parts-requires c κs = search needs
 
-same-parts-requires : tie.Need-same-parts-requires
-same-parts-requires c κs = search needs
-
-told-of-requires : tie.Need-told-of-requires
-told-of-requires c κs = search needs
-
-same-told-requires : tie.Need-same-told-requires
-same-told-requires c κs = search needs
+exact-told-requires : tie.Need-exact-told-requires
+exact-told-requires c κs = search needs
 
 exact-rest-requires : tie.Need-exact-rest-requires
 exact-rest-requires c κs = search needs
 
 returns-2 : tie.Need-returns-2
-returns-2 c = let told = c .before .before in
-    let parted = told .before .before in
-    let from = parted .before .before .before in
+returns-2 c = let asked = c .before .before in
+    let from = asked .before .before .before in
     let read = from .before .before in
-    entry-made (read .before .before .before .before .before .args .r .now) _ _ _ _ _ _ _ _ _ (read .before .before .if1 .left)
+    entry-made (read .before .before .before .before .before .args .r .now) _ _ _ _ _ _ _ (read .before .before .if1 .left)
     (read .before .parts-in .ensures)
     (read .told-in .ensures)
     (from .before .state-from .ensures)
     (from .outcome-from .ensures)
-    (parted .parts-of .ensures)
-    (told .before .same-parts .ensures)
-    (told .told-of .ensures)
-    (c .before .same-told .ensures)
+    (asked .exact-parts .ensures)
+    (c .before .exact-told .ensures)
     (c .exact-rest .ensures)
 
 pub entry-of-spec : {M : Type 1} → statement M
@@ -82,9 +73,7 @@ entry-of-spec =
     outcome-from-requires
     shared-slice-read-t9
     shared-slice-read-t15
-    parts-of-requires
-    same-parts-requires
-    told-of-requires
-    same-told-requires
+    exact-parts-requires
+    exact-told-requires
     exact-rest-requires
     returns-2)

@@ -167,8 +167,8 @@ mul-t48 c = search needs
 element-set-from-table-2 : tie.Need-element-set-from-table-2 Inv-loop μ-loop
 element-set-from-table-2 c = search needs
 
-waiters-key-requires : tie.Need-waiters-key-requires Inv-loop μ-loop
-waiters-key-requires c κs = search needs
+event-key-requires : tie.Need-event-key-requires Inv-loop μ-loop
+event-key-requires c κs = search needs
 
 element-write-table : tie.Need-element-write-table Inv-loop μ-loop
 element-write-table c = search needs
@@ -193,7 +193,7 @@ loop-again-2 c = let keyed = c .before in
     let place : ℕ = placeFrom (lent bytes s) in
     let k : ℕ = first .before .ready-key .result in
     let g : ℕ = second .before .senders-key .result in
-    let e : ℕ = keyed .waiters-key .result in
+    let e : ℕ = keyed .event-key .result in
     let t₁ : Table = first .if3 .table in
     let t₂ : Table = second .if4 .table in
     let ready : t₁ ≡ withReady (withTask t s x) k (placedRow (readyRow t k) place (s + 1)) =
@@ -216,7 +216,7 @@ loop-again-2 c = let keyed = c .before in
           ready
           (second .before .senders-key .ensures)
           senders
-          (keyed .waiters-key .ensures)
+          (keyed .event-key .ensures)
           waiters,
       exact-more entry,
     )
@@ -267,7 +267,7 @@ decode-spec =
     placed-row-requires-2
     mul-t48
     element-set-from-table-2
-    waiters-key-requires
+    event-key-requires
     element-write-table
     add-s-2
     loop-less-2

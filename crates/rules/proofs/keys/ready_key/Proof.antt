@@ -1,9 +1,9 @@
--- `image::stored::ready_key` meets its contract, by the code of the task's state.
+-- `rules::keys::ready_key` meets its contract, by the code of the task's state.
 use mathlib.Core.Path.{sym, _∙_}
 use borrow.Author.Tests.{ne-eqb}
 use borrow.Author.Needs.{needs}
-use Rattle.image.proofs.stored.ready_key.Statement.{statement}
-use Rattle.image.proofs.stored.ready_key.Tie as tie
+use Rattle.rules.proofs.keys.ready_key.Statement.{statement}
+use Rattle.rules.proofs.keys.ready_key.Tie as tie
 
 state-code-requires : tie.Need-state-code-requires
 state-code-requires c κs = search needs

@@ -1,9 +1,9 @@
--- `image::stored::waiters_key` meets its contract, by the code of the task's state.
+-- `rules::keys::event_key` meets its contract, by the code of the task's state.
 use mathlib.Core.Path.{sym, _∙_}
 use borrow.Author.Tests.{ne-eqb}
 use borrow.Author.Needs.{needs}
-use Rattle.image.proofs.stored.waiters_key.Statement.{statement}
-use Rattle.image.proofs.stored.waiters_key.Tie as tie
+use Rattle.rules.proofs.keys.event_key.Statement.{statement}
+use Rattle.rules.proofs.keys.event_key.Tie as tie
 
 state-code-requires : tie.Need-state-code-requires
 state-code-requires c κs = search needs
@@ -22,6 +22,6 @@ returns c =
 returns-2 : tie.Need-returns-2
 returns-2 c = rw (← c .before .state-code .ensures, ne-eqb _ 6 (c .if1 .left))
 
-pub waiters-key-spec : {M : Type 1} → statement M
-waiters-key-spec =
+pub event-key-spec : {M : Type 1} → statement M
+event-key-spec =
     tie.close (tie.spec state-code-requires awaited-requires wide-requires returns returns-2)
