@@ -21,7 +21,7 @@ use task::task::EVENTS;
 use task::task::PRIORITIES;
 use task::task::SLOTS;
 ghost use mathlib.Core.Path.{_≡_};
-ghost use Prim.Native.Nat.{_+_, _*_, _≤_, _<_, min, max};
+ghost use Prim.Native.Nat.{_+_, _≤_, min, max};
 ghost use lib.ListN.{length, set};
 ghost use lib.Seq.{paste};
 ghost use Rattle.queue.specs.Row.{places};
@@ -93,16 +93,13 @@ fn decode(bytes: &[u8]) -> Decoded
         waiters: [0; EVENTS],
     };
     let mut exact = true;
-    let mut s = 0;
-    while s < count {
+    for s in 0..count {
         let at = s * RECORD;
-        let end = at + RECORD;
-        let r = &bytes[at..end];
+        let r = &bytes[at..at + RECORD];
         let entry = entry_of(r);
         exact &= entry.exact;
         // Nothing of an unused slot is stored: its task is there already, and it stands in no row.
         if r[STATE] == UNUSED {
-            s += 1;
             continue;
         }
         let x = entry.task;
@@ -111,19 +108,16 @@ fn decode(bytes: &[u8]) -> Decoded
         table.tasks[s] = x;
         let k = ready_key(x);
         if k < PRIORITIES {
-            let q = table.ready[k];
-            table.ready[k] = placed_row(q, place, tid);
+            table.ready[k] = placed_row(table.ready[k], place, tid);
         }
         let g = senders_key(x);
         if g < SLOTS {
-            let q = table.senders[g];
-            table.senders[g] = placed_row(q, place, tid);
+            table.senders[g] = placed_row(table.senders[g], place, tid);
         }
         let e = event_key(x);
         if e < EVENTS {
             table.waiters[e] = tid;
         }
-        s += 1;
     }
     Decoded { table, exact }
 }

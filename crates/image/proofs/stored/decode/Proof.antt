@@ -78,13 +78,16 @@ empty-requires-2 c κs = search needs
 
 loop-holds : tie.Need-loop-holds Inv-loop μ-loop
 unfolding tableUpTo allBelow
-loop-holds c = (omega arith, ⊎-elim (λ w. omega (arith, w .1)) (λ w. omega (arith, w .1)) (c .before .before .before .if1 .came), rw (c .before .before .no-task .ensures, c .before .empty .ensures, c .empty2 .ensures), refl)
+loop-holds c =
+    let few : c .before .before .before .if1 .count ≤ places =
+    ⊎-elim (λ w. omega (arith, w .1)) (λ w. omega (arith, w .1)) (c .before .before .before .if1 .came) in
+    (omega arith, few, rw (c .before .before .no-task .ensures, c .before .empty .ensures, c .empty2 .ensures), refl)
 
 mul-at : tie.Need-mul-at Inv-loop μ-loop
 mul-at c = search needs
 
-add-end : tie.Need-add-end Inv-loop μ-loop
-add-end c = search needs
+add-r : tie.Need-add-r Inv-loop μ-loop
+add-r c = search needs
 
 sub-r : tie.Need-sub-r Inv-loop μ-loop
 sub-r c = search needs
@@ -131,17 +134,17 @@ element-set-from-x c = search needs
 ready-key-requires : tie.Need-ready-key-requires Inv-loop μ-loop
 ready-key-requires c κs = search needs
 
-mul-q : tie.Need-mul-q Inv-loop μ-loop
-mul-q c = search needs
+mul-placed-row : tie.Need-mul-placed-row Inv-loop μ-loop
+mul-placed-row c = search needs
 
-element-copy-out-q : tie.Need-element-copy-out-q Inv-loop μ-loop
-element-copy-out-q c = search needs
+element-copy-out-placed-row : tie.Need-element-copy-out-placed-row Inv-loop μ-loop
+element-copy-out-placed-row c = search needs
 
 placed-row-requires : tie.Need-placed-row-requires Inv-loop μ-loop
 placed-row-requires c κs = search needs
 
-mul-t37 : tie.Need-mul-t37 Inv-loop μ-loop
-mul-t37 c = search needs
+mul-t40 : tie.Need-mul-t40 Inv-loop μ-loop
+mul-t40 c = search needs
 
 element-set-from-table : tie.Need-element-set-from-table Inv-loop μ-loop
 element-set-from-table c = search needs
@@ -149,17 +152,17 @@ element-set-from-table c = search needs
 senders-key-requires : tie.Need-senders-key-requires Inv-loop μ-loop
 senders-key-requires c κs = search needs
 
-mul-q-2 : tie.Need-mul-q-2 Inv-loop μ-loop
-mul-q-2 c = search needs
+mul-placed-row-2 : tie.Need-mul-placed-row-2 Inv-loop μ-loop
+mul-placed-row-2 c = search needs
 
-element-copy-out-q-2 : tie.Need-element-copy-out-q-2 Inv-loop μ-loop
-element-copy-out-q-2 c = search needs
+element-copy-out-placed-row-2 : tie.Need-element-copy-out-placed-row-2 Inv-loop μ-loop
+element-copy-out-placed-row-2 c = search needs
 
 placed-row-requires-2 : tie.Need-placed-row-requires-2 Inv-loop μ-loop
 placed-row-requires-2 c κs = search needs
 
-mul-t43 : tie.Need-mul-t43 Inv-loop μ-loop
-mul-t43 c = search needs
+mul-t48 : tie.Need-mul-t48 Inv-loop μ-loop
+mul-t48 c = search needs
 
 element-set-from-table-2 : tie.Need-element-set-from-table-2 Inv-loop μ-loop
 element-set-from-table-2 c = search needs
@@ -238,7 +241,7 @@ decode-spec =
     empty-requires-2
     loop-holds
     mul-at
-    add-end
+    add-r
     sub-r
     part-r-start
     part-r-end
@@ -253,16 +256,16 @@ decode-spec =
     mul-x
     element-set-from-x
     ready-key-requires
-    mul-q
-    element-copy-out-q
+    mul-placed-row
+    element-copy-out-placed-row
     placed-row-requires
-    mul-t37
+    mul-t40
     element-set-from-table
     senders-key-requires
-    mul-q-2
-    element-copy-out-q-2
+    mul-placed-row-2
+    element-copy-out-placed-row-2
     placed-row-requires-2
-    mul-t43
+    mul-t48
     element-set-from-table-2
     event-key-requires
     element-write-table
