@@ -22,7 +22,7 @@ END {
     row("a call of the byte entry, " tasks " tasks, instructions", "entry")
     row("the peer's", "peer-entry")
     row("decode", "apart-decode")
-    row("check", "apart-check")
+    row("check", "apart-check_placed")
     row("decide", "apart-decide_at")
     row("write", "apart-store")
     row("a step in memory, instructions", "step")
