@@ -10,6 +10,8 @@ function row(title, name,    i, line, some) {
 }
 BEGIN { count = split(sizes, size, " ") }
 { figure[$1, $2] = $3 - $4 }
+# what is left of reading an image once its records are decoded
+$1 == "apart-given" { figure["apart-check", $2] = $3 - figure["apart-decode", $2] }
 /^seconds-/ && !seen[$1]++ { proof[++proofs] = $1 }
 END {
     line = "| |"
@@ -22,7 +24,7 @@ END {
     row("a call of the byte entry, " tasks " tasks, instructions", "entry")
     row("the peer's", "peer-entry")
     row("decode", "apart-decode")
-    row("check", "apart-check_placed")
+    row("check", "apart-check")
     row("decide", "apart-decide_at")
     row("write", "apart-store")
     row("a step in memory, instructions", "step")
