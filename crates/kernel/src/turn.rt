@@ -78,9 +78,8 @@ impl Table {
         let mut next = 0;
         let mut told = Outcome::Nothing;
         if first < PRIORITIES {
-            // The head is read before the row is taken out: the compiler then copies the row in one piece.
-            let tids = self.ready[first].tids;
-            next = tids[0];
+            let row = self.ready[first];
+            next = row.tids[0];
             let q = self.ready[first];
             self.ready[first] = q.popped();
             let s = queue::slot(next);
