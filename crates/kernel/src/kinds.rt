@@ -53,17 +53,18 @@ impl Table {
         let mut woken = 0;
         let mut outcome = Outcome::Fault(1);
         if p < PRIORITIES {
-            let mut tasks = self.tasks;
+            let tasks = self.tasks;
             let s = used_slots(tasks);
             outcome = Outcome::Fault(2);
             if s < SLOTS {
-                tasks[s] = Task {
+                let mut next = tasks;
+                next[s] = Task {
                     state: State::Ready,
                     priority: p as u8,
                     parent: c as u8 + 1,
                     outcome: Outcome::Nothing,
                 };
-                self.tasks = tasks;
+                self.tasks = next;
                 woken = s as u8 + 1;
                 outcome = Outcome::Value {
                     from: 0,

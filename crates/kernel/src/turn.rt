@@ -78,9 +78,8 @@ impl Table {
         let mut next = 0;
         let mut told = Outcome::Nothing;
         if first < PRIORITIES {
-            let row = self.ready[first];
-            next = row.tids[0];
             let q = self.ready[first];
+            next = q.tids[0];
             self.ready[first] = q.popped();
             let s = queue::slot(next);
             if s < SLOTS {

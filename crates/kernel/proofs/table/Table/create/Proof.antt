@@ -31,11 +31,11 @@ cast-t14 c = search needs
 add-t15 : tie.Need-add-t15
 add-t15 c = search needs
 
-mul-tasks : tie.Need-mul-tasks
-mul-tasks c = search needs
+mul-next : tie.Need-mul-next
+mul-next c = search needs
 
-array-set-from-tasks : tie.Need-array-set-from-tasks
-array-set-from-tasks c = search needs
+array-set-from-next : tie.Need-array-set-from-next
+array-set-from-next c = search needs
 
 cast-woken-2 : tie.Need-cast-woken-2
 cast-woken-2 c = search needs
@@ -79,8 +79,8 @@ create-spec =
     cast-woken
     cast-t14
     add-t15
-    mul-tasks
-    array-set-from-tasks
+    mul-next
+    array-set-from-next
     cast-woken-2
     add-woken
     cast-t21
