@@ -7,7 +7,7 @@ use lib.Dec.{ltb, leb, eqb}
 use Rattle.queue.specs.Choose.{choose}
 use Rattle.task.specs.Task.{events, areaBytes}
 use Rattle.kernel.specs.declared.table.Request.{Request}
-use Rattle.kernel.specs.Numbers.{createKind, sendKind, receiveKind, replyKind, eventKind, ownWriteKind, accepted, badKind, noneActive, badEvent, badWrite}
+use Rattle.kernel.specs.Numbers.{createKind, myParentTidKind, sendKind, receiveKind, replyKind, awaitEventKind, eventKind, ownWriteKind, accepted, badKind, noneActive, badEvent, badWrite}
 
 -- the first refusal that holds, of a table of n slots whose active slot is a (n where none is); 0 where none does
 unfoldable pub refusalOf : ℕ → ℕ → Request → ℕ
@@ -26,3 +26,7 @@ Enters n a r = (refusalOf n a r ≡ accepted) × (r .kind ≢ ownWriteKind)
 -- a kind that brings no message
 abbrev pub Alone : ℕ → Type 0
 Alone k = (k ≢ sendKind) × ((k ≢ receiveKind) × (k ≢ replyKind))
+
+-- a kind that neither reads nor changes the table
+abbrev pub Plain : ℕ → Type 0
+Plain k = Alone k × ((k ≢ createKind) × ((k ≢ myParentTidKind) × ((k ≢ awaitEventKind) × (k ≢ eventKind))))

@@ -1,6 +1,6 @@
 -- The turn that the work of a request leaves: the table, the tid of a task that was made ready (0 for none), the caller's
 -- own next state and result, and what is to be done to the areas. And how an entry ends from there.
-use Prim.Native.Nat.{ℕ, _+_, _<_}
+use Prim.Native.Nat.{ℕ, _+_, _-_, _≤_, _<_}
 use mathlib.Core.Path.{_≡_}
 use lib.Dec.{ltb}
 use Rattle.queue.specs.Choose.{choose}
@@ -41,11 +41,11 @@ settled c u =
     let caller = readyTid (slots (u .table)) c (u .state) in
     dispatched (u .effect) (joinedTid (leftAs woke c (u .state) (u .outcome)) caller)
 
--- a row to which the search for the first that is not empty goes, and no further: the last one, or one where somebody stands
+-- how many rows the search for the first that is not empty has to look at: all of them, or up to one where somebody stands
 abbrev pub Reaches : Table → ℕ → Type 0
-Reaches t row = (row < priorities) × (row + 1 < priorities → 0 < readyRow t row .len)
+Reaches t rows = (rows ≤ priorities) × (rows < priorities → (0 < rows) × (0 < readyRow t (rows - 1) .len))
 
--- the caller has joined its queue, if it goes on, and the search goes to a row that is known
+-- the caller has joined its queue, if it goes on, and it is known how far the search goes
 pub record Rejoins (t : Table) (c : ℕ) (st : State) (o : Outcome) (r : Rejoined) : Type 0 where
   pub joins : r .table ≡ joinedTid (leftAs t c st o) (readyTid (slots t) c st)
-  pub bound : Reaches (r .table) (r .last)
+  pub bound : Reaches (r .table) (r .end)

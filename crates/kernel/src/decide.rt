@@ -4,7 +4,7 @@ ghost use Prim.Native.Nat.{_<_};
 ghost use Rattle.queue.specs.Row.{places};
 ghost use Rattle.task.specs.Task.{areaBytes};
 ghost use Rattle.kernel.specs.Turn.{settled};
-ghost use Rattle.kernel.specs.Refusal.{refusalOf, Enters, Alone};
+ghost use Rattle.kernel.specs.Refusal.{refusalOf, Enters, Alone, Plain};
 ghost use Rattle.kernel.specs.Decide as Decide;
 ghost use Rattle.kernel.specs.Decide.{refused, turnOf, ownWrite, decideAt};
 use crate::numbers::ACCEPTED;
@@ -157,11 +157,22 @@ impl Table {
         let kind = r.kind;
         match kind {
             CREATE => self.create(c, r.arg0),
-            MY_TID => self.my_tid(c),
             MY_PARENT_TID => self.my_parent_tid(c),
-            YIELD => self.yields(),
             AWAIT_EVENT => self.await_event(c, r.arg0),
             EVENT => self.event(r.arg0, r.arg1),
+            _ => self.turned_plain(c, r),
+        }
+    }
+
+    // The kinds that neither read nor change the table: by themselves they leave it to the compiler in one piece.
+    fn turned_plain(self, c: usize, r: Request) -> Turn
+        requires { ⌜ Enters places c r × Plain (r .kind) ⌝ }
+        ensures { λ u. ⌜ u ≡ turnOf self c r ⌝ }
+    {
+        let kind = r.kind;
+        match kind {
+            MY_TID => self.my_tid(c),
+            YIELD => self.yields(),
             _ => self.exit(),
         }
     }

@@ -1,10 +1,12 @@
 // What each kind of request does, in the order of the paper's table.
 // `c` is the slot of the caller, `target` a tid that it names.
+//
+// Each kind has one way out, so that the table is changed in place; an array of it that is seldom changed is taken out, changed and put
+// back as a whole, since the compiler keeps one table only while few places of the code touch it (docs/SPEED.md).
 ghost use mathlib.Core.Path.{_≡_};
 ghost use Prim.Native.Nat.{_<_, min};
 ghost use Rattle.queue.specs.Row.{places};
 ghost use Rattle.task.specs.Task.{events};
-ghost use Rattle.kernel.specs.Turn.{resumes};
 ghost use Rattle.kernel.specs.Kinds as Kinds;
 use crate::table::Effect;
 use crate::table::Table;
@@ -48,28 +50,33 @@ impl Table {
         ensures { λ r. ⌜ r ≡ Kinds.create self c priority ⌝ }
     {
         let p = priority as usize;
-        if PRIORITIES <= p {
-            return self.resumes(Outcome::Fault(1));
+        let mut woken = 0;
+        let mut outcome = Outcome::Fault(1);
+        if p < PRIORITIES {
+            let tasks = self.tasks;
+            let s = used_slots(tasks);
+            outcome = Outcome::Fault(2);
+            if s < SLOTS {
+                let mut next = tasks;
+                next[s] = Task {
+                    state: State::Ready,
+                    priority: p as u8,
+                    parent: c as u8 + 1,
+                    outcome: Outcome::Nothing,
+                };
+                self.tasks = next;
+                woken = s as u8 + 1;
+                outcome = Outcome::Value {
+                    from: 0,
+                    value: s as u32 + 1,
+                };
+            }
         }
-        let tasks = self.tasks;
-        let s = used_slots(tasks);
-        if SLOTS <= s {
-            return self.resumes(Outcome::Fault(2));
-        }
-        self.tasks[s] = Task {
-            state: State::Ready,
-            priority: p as u8,
-            parent: c as u8 + 1,
-            outcome: Outcome::Nothing,
-        };
         Turn {
             table: self,
-            woken: s as u8 + 1,
+            woken,
             state: State::Ready,
-            outcome: Outcome::Value {
-                from: 0,
-                value: s as u32 + 1,
-            },
+            outcome,
             effect: Effect::Keep,
         }
     }
@@ -95,7 +102,8 @@ impl Table {
         requires { ⌜ c < places ⌝ }
         ensures { λ r. ⌜ r ≡ Kinds.myParentTid self c ⌝ }
     {
-        let task = self.tasks[c];
+        let tasks = self.tasks;
+        let task = tasks[c];
         let outcome = Outcome::Value {
             from: 0,
             value: task.parent as u32,
@@ -292,18 +300,24 @@ impl Table {
         ensures { λ r. ⌜ r ≡ Kinds.awaitEvent self c event ⌝ }
     {
         let e = event as usize;
-        if EVENTS <= e {
-            return self.resumes(Outcome::Fault(1));
+        let mut next = State::Ready;
+        let mut outcome = Outcome::Fault(1);
+        if e < EVENTS {
+            let mut waiters = self.waiters;
+            if waiters[e] == 0 {
+                waiters[e] = c as u8 + 1;
+                self.waiters = waiters;
+                next = State::EventBlocked(e as u8);
+                outcome = Outcome::Nothing;
+            } else {
+                outcome = Outcome::Fault(3);
+            }
         }
-        if self.waiters[e] != 0 {
-            return self.resumes(Outcome::Fault(3));
-        }
-        self.waiters[e] = c as u8 + 1;
         Turn {
             table: self,
             woken: 0,
-            state: State::EventBlocked(e as u8),
-            outcome: Outcome::Nothing,
+            state: next,
+            outcome,
             effect: Effect::Keep,
         }
     }
@@ -314,34 +328,22 @@ impl Table {
         ensures { λ r. ⌜ r ≡ Kinds.event self event word ⌝ }
     {
         let e = event as usize;
-        let tid = self.waiters[e];
-        if tid == 0 {
-            return self.resumes(Outcome::Nothing);
-        }
-        self.waiters[e] = 0;
-        let s = queue::slot(tid);
-        if s < SLOTS {
-            let task = self.tasks[s];
-            self.tasks[s] = task.becomes(State::Ready, told(word));
+        let mut waiters = self.waiters;
+        let tid = waiters[e];
+        if 0 < tid {
+            waiters[e] = 0;
+            self.waiters = waiters;
+            let s = queue::slot(tid);
+            if s < SLOTS {
+                let task = self.tasks[s];
+                self.tasks[s] = task.becomes(State::Ready, told(word));
+            }
         }
         Turn {
             table: self,
             woken: tid,
             state: State::Ready,
             outcome: Outcome::Nothing,
-            effect: Effect::Keep,
-        }
-    }
-
-    // Nobody is woken, and the caller goes on with a result.
-    fn resumes(self, outcome: Outcome) -> Turn
-        ensures { λ r. ⌜ r ≡ resumes self outcome ⌝ }
-    {
-        Turn {
-            table: self,
-            woken: 0,
-            state: State::Ready,
-            outcome,
             effect: Effect::Keep,
         }
     }

@@ -55,10 +55,10 @@ pub struct Turn {
     pub effect: Effect,
 }
 
-// The table once the caller has joined, and a row that has somebody, or the last.
+// The table once the caller has joined, and how many rows have to be looked at: all, or up to one that has somebody.
 pub(crate) struct Rejoined {
     pub table: Table,
-    pub last: usize,
+    pub end: usize,
 }
 
 pub struct Decision {

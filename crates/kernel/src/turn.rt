@@ -40,11 +40,11 @@ impl Table {
     }
 
     // The caller is left in a state, with a result to be told, and joins the tail of the queue of its priority if it is
-    // ready. No row past the last one that is answered has to be looked at.
+    // ready. No row from the one that is answered on has to be looked at.
     fn rejoined(mut self, c: usize, state: State, outcome: Outcome) -> Rejoined
         ensures { λ r. ⌜ Rejoins self c state outcome r ⌝ }
     {
-        let mut last = PRIORITIES - 1;
+        let mut end = PRIORITIES;
         if c < SLOTS {
             let task = self.tasks[c];
             self.tasks[c] = task.becomes(state, outcome);
@@ -53,25 +53,25 @@ impl Table {
                 if p < PRIORITIES {
                     let q = self.ready[p];
                     self.ready[p] = q.pushed(c as u8 + 1);
-                    last = p;
+                    end = p + 1;
                 }
             }
         }
-        Rejoined { table: self, last }
+        Rejoined { table: self, end }
     }
 
     // The head of the first queue that is not empty runs next, and is told its result.
-    fn dispatched(mut self, last: usize, effect: Effect) -> Decision
-        requires { ⌜ Reaches self last ⌝ }
+    fn dispatched(mut self, end: usize, effect: Effect) -> Decision
+        requires { ⌜ Reaches self end ⌝ }
         ensures { λ r. ⌜ r ≡ dispatched effect self ⌝ }
     {
         let mut k = 0;
         let first = loop {
+            if k == end {
+                break PRIORITIES;
+            }
             if 0 < self.ready[k].len {
                 break k;
-            }
-            if k == last {
-                break PRIORITIES;
             }
             k += 1;
         };
@@ -116,7 +116,7 @@ impl Table {
     {
         let rejoined = self.joined(woken).rejoined(c, state, outcome);
         let table = rejoined.table;
-        table.dispatched(rejoined.last, effect)
+        table.dispatched(rejoined.end, effect)
     }
 }
 

@@ -1,8 +1,10 @@
 -- `Table::event`: the waiter, if any, is woken, and the active task, if any, interrupted.
 use Prim.Native.Nat.{_-_, _≤_}
 use mathlib.Core.Path.{_≡_}
+use mathlib.Core.Bool.{false}
 use native.Mathlib.Omega.{arith}
 use lib.ListN.{length}
+use lib.Dec.{eqb}
 use lib.Seq.{set-out}
 use borrow.Author.Needs.{needs}
 use borrow.Author.Tests.{ne-eqb}
@@ -16,14 +18,11 @@ use Rattle.kernel.proofs.table.Table.event.Tie as tie
 slots-all : (c : tie.Start) → length (c .args .t1 .tasks) ≡ places
 slots-all c = owned-shaped (c .args .t1) _ (c .good .0) .tasks
 
-element-copy-out-tid : tie.Need-element-copy-out-tid
-element-copy-out-tid c = search needs
+array-read-tid : tie.Need-array-read-tid
+array-read-tid c = search needs
 
-resumes-requires : tie.Need-resumes-requires
-resumes-requires c κs = search needs
-
-element-write-self : tie.Need-element-write-self
-element-write-self c = search needs
+array-write-waiters : tie.Need-array-write-waiters
+array-write-waiters c = search needs
 
 slot-requires : tie.Need-slot-requires
 slot-requires c κs = search needs
@@ -40,8 +39,8 @@ told-requires c κs = search needs
 becomes-requires : tie.Need-becomes-requires
 becomes-requires c κs = search needs
 
-mul-t17 : tie.Need-mul-t17
-mul-t17 c = search needs
+mul-t19 : tie.Need-mul-t19
+mul-t19 c = search needs
 
 element-set-from-self : tie.Need-element-set-from-self
 element-set-from-self c = search needs
@@ -49,44 +48,47 @@ element-set-from-self c = search needs
 returns : tie.Need-returns
 unfolding Kinds.event
 returns c =
-    let start = c .before .before .before in
-    let none : waiterAt (start .args .t1) (start .args .event) ≡ 0 = c .before .if1 .taken in
-    rw none (c .resumes .ensures)
+    let found = c .before .before .before .before in
+    let some = found .before in
+    let start = some .before .before in
+    let w = waiterAt (start .args .t1) (start .args .event) in
+    let waits : eqb w 0 ≡ false = ne-eqb w 0 (λ e. omega (arith, some .if1 .taken)) in
+    rw (c .becomes .ensures, c .before .told .ensures, found .slot .ensures .0, waits)
 
+-- a waiter that names no slot stores nothing, and joins
 returns-2 : tie.Need-returns-2
 unfolding Kinds.event
 returns-2 c =
-    let found = c .before .before .before .before in
-    let start = found .before .before .before in
-    let w = waiterAt (start .args .t1) (start .args .event) in
-    rw (c .becomes .ensures, c .before .told .ensures, found .slot .ensures .0, ne-eqb w 0 (found .before .if1 .left))
+    let found = c .before in
+    let some = found .before in
+    let start = some .before .before in
+    let t = start .args .t1 in
+    let w = waiterAt t (start .args .event) in
+    let waits : eqb w 0 ≡ false = ne-eqb w 0 (λ e. omega (arith, some .if1 .taken)) in
+    let n = slots-all start in
+    let past : length (t .tasks) ≤ w - 1 = rw (← found .slot .ensures .0) (omega arith) in
+    rw (waits, set-out (t .tasks) (w - 1) _ past)
 
--- a waiter that names no slot stores nothing, and joins
 returns-3 : tie.Need-returns-3
 unfolding Kinds.event
 returns-3 c =
-    let found = c .before in
-    let start = found .before .before .before in
-    let t = start .args .t1 in
-    let w = waiterAt t (start .args .event) in
-    let n = slots-all start in
-    let past : length (t .tasks) ≤ w - 1 = rw (← found .slot .ensures .0) (omega arith) in
-    rw (ne-eqb w 0 (found .before .if1 .left), set-out (t .tasks) (w - 1) _ past)
+    let start = c .before .before in
+    let none : waiterAt (start .args .t1) (start .args .event) ≡ 0 = omega (arith, c .if1 .left) in
+    rw none
 
 pub event-spec : {M : Type 1} → statement M
 event-spec =
     tie.close
     (tie.spec
-    element-copy-out-tid
-    resumes-requires
-    returns
-    element-write-self
+    array-read-tid
+    array-write-waiters
     slot-requires
     mul-task
     element-copy-out-task
     told-requires
     becomes-requires
-    mul-t17
+    mul-t19
     element-set-from-self
+    returns
     returns-2
     returns-3)

@@ -8,8 +8,8 @@ use Rattle.kernel.proofs.table.Table.my_parent_tid.Tie as tie
 mul-task : tie.Need-mul-task
 mul-task c = search needs
 
-element-copy-out-task : tie.Need-element-copy-out-task
-element-copy-out-task c = search needs
+array-copy-out-task : tie.Need-array-copy-out-task
+array-copy-out-task c = search needs
 
 cast-t10 : tie.Need-cast-t10
 cast-t10 c = search needs
@@ -19,4 +19,4 @@ unfolding myParentTid
 returns c = refl
 
 pub my-parent-tid-spec : {M : Type 1} → statement M
-my-parent-tid-spec = tie.close (tie.spec mul-task element-copy-out-task cast-t10 returns)
+my-parent-tid-spec = tie.close (tie.spec mul-task array-copy-out-task cast-t10 returns)

@@ -1,5 +1,5 @@
 -- `Table::rejoined`: a way out for each test. The row that a ready caller joins has somebody then.
-use Prim.Native.Nat.{_≤_, _<_}
+use Prim.Native.Nat.{_+_, _-_, _≤_, _<_}
 use mathlib.Core.Path.{_≡_, sym}
 use mathlib.Core.Bool.{true, false}
 use native.Mathlib.Omega.{arith}
@@ -19,9 +19,6 @@ use Rattle.kernel.proofs.table.Table.rejoined.Tie as tie
 
 shape : (c : tie.Start) → Shaped places (c .args .t1)
 shape c = owned-shaped (c .args .t1) _ (c .good .0)
-
-sub-last : tie.Need-sub-last
-sub-last c = search needs
 
 mul-task : tie.Need-mul-task
 mul-task c = search needs
@@ -65,6 +62,9 @@ mul-t20 c = search needs
 element-set-from-self-2 : tie.Need-element-set-from-self-2
 element-set-from-self-2 c = search needs
 
+add-end : tie.Need-add-end
+add-end c = search needs
+
 returns : tie.Need-returns
 returns c =
     let asked = c .before .before .before in
@@ -79,11 +79,12 @@ returns c =
     let here : asked .wide .result ≡ p = asked .wide .ensures in
     let ready : isReady (start .args .state) ≡ true = rw (← told .state-code .ensures) (eq-eqb _ _ (asked .before .if2 .taken)) in
     let fits : p < length (t .ready) = rw (← here) (omega arith) in
+    let back : p + 1 - 1 ≡ p = omega arith in
     let tall : 0 < length (readyRow t p .tids) = rw (shaped .ready .places p (omega arith)) (omega arith) in
     rw (c .pushed .ensures, told .before .becomes .ensures, here)
     (record {
       joins = sym (caller-joins t _ _ _ (omega arith) ready);
-      bound = (omega arith, λ h. rw (getD-set-same (t .ready) p _ noRow fits) (pushed-some _ _ tall));
+      bound = (omega arith, λ h. (omega arith, rw (back, getD-set-same (t .ready) p _ noRow fits) (pushed-some _ _ tall)));
     })
 
 returns-2 : tie.Need-returns-2
@@ -123,7 +124,6 @@ pub rejoined-spec : {M : Type 1} → statement M
 rejoined-spec =
     tie.close
     (tie.spec
-    sub-last
     mul-task
     element-copy-out-task
     becomes-requires
@@ -138,6 +138,7 @@ rejoined-spec =
     pushed-requires
     mul-t20
     element-set-from-self-2
+    add-end
     returns
     returns-2
     returns-3

@@ -1,11 +1,9 @@
 -- `Table::turned_alone`: each kind's own contract, at the kind that its arm knows.
-use Prim.Native.Nat.{ℕ, _≤_, _<_}
-use mathlib.Core.Path.{_≡_}
-use mathlib.Core.Logic.{_≢_}
+use Prim.Native.Nat.{_<_}
 use native.Mathlib.Omega.{arith}
 use borrow.Author.Needs.{needs}
 use Rattle.queue.specs.Row.{places}
-use Rattle.kernel.specs.Numbers.{exitKind, eventKind}
+use Rattle.kernel.specs.Numbers.{eventKind}
 use Rattle.kernel.specs.Decide.{turnOf}
 use Rattle.kernel.proofs.Refusals.{Fine, fine}
 use Rattle.kernel.proofs.table.Table.turned_alone.Statement.{statement}
@@ -17,43 +15,20 @@ known c = fine places _ _ (c .pre .0 .0)
 running : (c : tie.Start) → c .args .r .kind < eventKind → c .args .c < places
 running c h = known c .caller (omega arith)
 
-from5 : (k : ℕ) → 1 ≤ k → k ≢ 1 → k ≢ 2 → k ≢ 3 → k ≢ 4 → 5 ≤ k
-from5 k h e₁ e₂ e₃ e₄ = omega arith
-
-to8 : (k : ℕ) → k ≤ 11 → k ≢ 11 → k ≢ 10 → k ≢ 9 → k ≤ 8
-to8 k h e₁₁ e₁₀ e₉ = omega arith
-
-only5 : (k : ℕ) → 5 ≤ k → k ≤ 8 → k ≢ 6 → k ≢ 7 → k ≢ 8 → k ≡ 5
-only5 k h h′ e₆ e₇ e₈ = omega arith
-
-last : (c : tie.At-match-rest) → c .before .args .r .kind ≡ exitKind
-last c =
-    let out = c .match .rest in
-    let start = c .before in
-    let within = known start .known in
-    let alone = start .pre .1 in
-    only5 _ (from5 _ (within .0) (out .0 .0 .0 .0 .0 .1) (out .0 .0 .0 .0 .1) (out .0 .0 .0 .1) (out .0 .0 .1)) (to8 _ (within .1) (start .pre .0 .1) (out .1) (out .0 .1)) (alone .0) (alone .1 .0) (alone .1 .1)
-
 create-requires : tie.Need-create-requires
 create-requires c κs = running (c .before) (omega (arith, c .match .keys1))
 
-my-tid-requires : tie.Need-my-tid-requires
-my-tid-requires c κs = running (c .before) (omega (arith, c .match .keys2))
-
 my-parent-tid-requires : tie.Need-my-parent-tid-requires
-my-parent-tid-requires c κs = running (c .before) (omega (arith, c .match .keys3))
-
-yields-requires : tie.Need-yields-requires
-yields-requires c κs = search needs
+my-parent-tid-requires c κs = running (c .before) (omega (arith, c .match .keys2))
 
 await-event-requires : tie.Need-await-event-requires
-await-event-requires c κs = running (c .before) (omega (arith, c .match .keys5))
+await-event-requires c κs = running (c .before) (omega (arith, c .match .keys3))
 
 event-requires : tie.Need-event-requires
-event-requires c κs = known (c .before) .event (c .match .keys6)
+event-requires c κs = known (c .before) .event (c .match .keys4)
 
-exit-requires : tie.Need-exit-requires
-exit-requires c κs = search needs
+turned-plain-requires : tie.Need-turned-plain-requires
+turned-plain-requires c κs = search needs
 
 returns : tie.Need-returns
 unfolding turnOf
@@ -61,43 +36,30 @@ returns c = rw (c .before .match .keys1) (c .create .ensures)
 
 returns-2 : tie.Need-returns-2
 unfolding turnOf
-returns-2 c = rw (c .before .match .keys2) (c .my-tid .ensures)
+returns-2 c = rw (c .before .match .keys2) (c .my-parent-tid .ensures)
 
 returns-3 : tie.Need-returns-3
 unfolding turnOf
-returns-3 c = rw (c .before .match .keys3) (c .my-parent-tid .ensures)
+returns-3 c = rw (c .before .match .keys3) (c .await-event .ensures)
 
 returns-4 : tie.Need-returns-4
 unfolding turnOf
-returns-4 c = rw (c .before .match .keys4) (c .yields .ensures)
+returns-4 c = rw (c .before .match .keys4) (c .event .ensures)
 
 returns-5 : tie.Need-returns-5
-unfolding turnOf
-returns-5 c = rw (c .before .match .keys5) (c .await-event .ensures)
-
-returns-6 : tie.Need-returns-6
-unfolding turnOf
-returns-6 c = rw (c .before .match .keys6) (c .event .ensures)
-
-returns-7 : tie.Need-returns-7
-unfolding turnOf
-returns-7 c = rw (last (c .before)) (c .exit .ensures)
+returns-5 c = c .turned-plain .ensures
 
 pub turned-alone-spec : {M : Type 1} → statement M
 turned-alone-spec =
     tie.close
     (tie.spec
     create-requires
-    my-tid-requires
     my-parent-tid-requires
-    yields-requires
     await-event-requires
     event-requires
-    exit-requires
+    turned-plain-requires
     returns
     returns-2
     returns-3
     returns-4
-    returns-5
-    returns-6
-    returns-7)
+    returns-5)
