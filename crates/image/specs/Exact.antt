@@ -8,6 +8,7 @@ use lib.Dec.{eqb}
 use Rattle.queue.specs.Choose.{choose, allBelow}
 use Rattle.image.specs.declared.fields.Parts.{Parts}
 use Rattle.image.specs.declared.fields.Told.{Told}
+use Rattle.image.specs.declared.fields.Stated.{Stated}
 use Rattle.image.specs.declared.fields.Entry.{Entry}
 use Rattle.image.specs.declared.stored.Decoded.{Decoded}
 use Rattle.image.specs.Bytes.{recordAt}
@@ -27,10 +28,18 @@ sameParts p q =
 abbrev pub sameTold : Told → Told → Bool
 sameTold p q = eqb (p .kind) (q .kind) && eqb (p .from) (q .from) && eqb (p .word) (q .word)
 
--- a place stands only where the task stands in a queue, and the spare byte is 0
+-- a place stands only where the task stands in a queue: the code is that of a ready or a receive blocked task
+abbrev pub exactPlace : ℕ → ℕ → Bool
+exactPlace code place = eqb code 2 || eqb code 4 || eqb place 0
+
+-- the state that parts give, and whether they and the place are those of a task in it
+abbrev pub statedFrom : Parts → ℕ → Stated
+statedFrom p place =
+    record { state = stateFrom p; exact = sameParts (partsOf (stateFrom p)) p && exactPlace (p .code) place }
+
+-- the place is exact, and the spare byte is 0
 abbrev pub exactRest : List ℕ → Bool
-exactRest r =
-    (eqb (byteIn r atState) 2 || eqb (byteIn r atState) 4 || eqb (byteIn r atPlace) 0) && eqb (byteIn r atSpare) 0
+exactRest r = exactPlace (byteIn r atState) (byteIn r atPlace) && eqb (byteIn r atSpare) 0
 
 -- a used record gives its task's numbers again
 abbrev pub exactUsed : List ℕ → Bool

@@ -21,8 +21,8 @@ ghost use lib.Dec.{eqb};
 ghost use Rattle.queue.specs.Choose.{allBelow};
 ghost use Rattle.task.specs.Task.{noTask};
 ghost use Rattle.image.specs.Told.{toldOf};
-ghost use Rattle.image.specs.Record.{recordLength, plainParts, partsOf, fields, bufferIn, partsIn, toldIn, stateFrom, outcomeFrom};
-ghost use Rattle.image.specs.Exact.{sameParts, sameTold, exactRest, entryOf};
+ghost use Rattle.image.specs.Record.{recordLength, plainParts, partsOf, fields, bufferIn, partsIn, toldIn, outcomeFrom};
+ghost use Rattle.image.specs.Exact.{sameTold, statedFrom, entryOf};
 
 // A record's length, and where its fields start. The spare byte is 0.
 pub(crate) const RECORD: usize = 20;
@@ -180,28 +180,6 @@ fn told_in(r: &[u8]) -> Told
     }
 }
 
-fn state_from(parts: Parts) -> State
-    ensures { λ x. ⌜ x ≡ stateFrom parts ⌝ }
-{
-    let code = parts.code;
-    let message = parts.message;
-    let reply = parts.reply;
-    match code {
-        ACTIVE => State::Active,
-        READY => State::Ready,
-        SEND_BLOCKED => State::SendBlocked(message),
-        RECEIVE_BLOCKED => State::ReceiveBlocked {
-            target: parts.awaited,
-            message,
-            reply,
-        },
-        REPLY_BLOCKED => State::ReplyBlocked(reply),
-        EVENT_BLOCKED => State::EventBlocked(parts.awaited),
-        EXITED => State::Exited,
-        _ => State::Unused,
-    }
-}
-
 fn outcome_from(told: Told) -> Outcome
     ensures { λ x. ⌜ x ≡ outcomeFrom told ⌝ }
 {
@@ -224,19 +202,56 @@ fn no_buffer(b: Buffer) -> bool
     (b.start == 0) & (b.len == 0)
 }
 
-// Whether parts are those of the state that they give: the code is a state's, and what that state does not hold is 0.
-// The code is asked, since to take the state apart again would cost a second jump by its variant.
-fn exact_parts(p: Parts) -> bool
-    ensures { λ r. ⌜ r ≡ sameParts (partsOf (stateFrom p)) p ⌝ }
+// The state that parts give, and whether they and the place are those of a task in it: the code is a state's, and what that state does not
+// hold is 0. Both from one `match`, since each would ask again which state it is.
+struct Stated {
+    state: State,
+    exact: bool,
+}
+
+fn read_as(state: State, exact: bool) -> Stated
+    ensures { λ x. ⌜ x ≡ record { state = state; exact = exact } ⌝ }
 {
-    let code = p.code;
-    let message = p.message;
-    let reply = p.reply;
-    let sends = code == RECEIVE_BLOCKED;
-    (code <= EXITED)
-        & (sends | (code == EVENT_BLOCKED) | (p.awaited == 0))
-        & (sends | (code == SEND_BLOCKED) | no_buffer(message))
-        & (sends | (code == REPLY_BLOCKED) | no_buffer(reply))
+    Stated { state, exact }
+}
+
+fn stated_from(parts: Parts, place: u8) -> Stated
+    ensures { λ x. ⌜ x ≡ statedFrom parts place ⌝ }
+{
+    let code = parts.code;
+    let awaited = parts.awaited;
+    let message = parts.message;
+    let reply = parts.reply;
+    let none = awaited == 0;
+    let unplaced = place == 0;
+    let bare = none & no_buffer(message) & no_buffer(reply);
+    match code {
+        UNUSED => read_as(State::Unused, bare & unplaced),
+        ACTIVE => read_as(State::Active, bare & unplaced),
+        READY => read_as(State::Ready, bare),
+        SEND_BLOCKED => read_as(
+            State::SendBlocked(message),
+            none & no_buffer(reply) & unplaced,
+        ),
+        RECEIVE_BLOCKED => read_as(
+            State::ReceiveBlocked {
+                target: awaited,
+                message,
+                reply,
+            },
+            true,
+        ),
+        REPLY_BLOCKED => read_as(
+            State::ReplyBlocked(reply),
+            none & no_buffer(message) & unplaced,
+        ),
+        EVENT_BLOCKED => read_as(
+            State::EventBlocked(awaited),
+            no_buffer(message) & no_buffer(reply) & unplaced,
+        ),
+        EXITED => read_as(State::Exited, bare & unplaced),
+        _ => read_as(State::Unused, false),
+    }
 }
 
 // Whether the numbers of a result are those of the outcome that they give; a value may be any word, from anyone.
@@ -244,18 +259,13 @@ fn exact_told(t: Told) -> bool
     ensures { λ r. ⌜ r ≡ sameTold (toldOf (outcomeFrom t)) t ⌝ }
 {
     let kind = t.kind;
-    let nothing = (kind == NOTHING) & (t.word == 0);
-    let fault = (kind == FAULT) & (MINUS_ONE - 3 < t.word);
-    (kind == VALUE) | ((t.from == 0) & (nothing | fault))
-}
-
-// Whether a place stands only where the task stands in a queue, and the spare byte is 0.
-fn exact_rest(r: &[u8]) -> bool
-    requires { ⌜ length (now r) ≡ recordLength ⌝ }
-    ensures { λ e. ⌜ e ≡ exactRest (now (r .entry)) ⌝ }
-{
-    let code = r[STATE];
-    ((code == READY) | (code == RECEIVE_BLOCKED) | (r[PLACE] == 0)) & (r[SPARE] == 0)
+    if kind == NOTHING {
+        return (t.word == 0) & (t.from == 0);
+    }
+    if kind == VALUE {
+        return true;
+    }
+    (kind == FAULT) & (MINUS_ONE - 3 < t.word) & (t.from == 0)
 }
 
 // Whether a record is all zero. No byte is skipped once one fails, so that the compiler may look at many at once.
@@ -301,7 +311,8 @@ pub(crate) fn entry_of(r: &[u8]) -> Entry
     }
     let parts = parts_in(r);
     let told = told_in(r);
-    let state = state_from(parts);
+    let stated = stated_from(parts, r[PLACE]);
+    let state = stated.state;
     let outcome = outcome_from(told);
     let task = Task {
         state,
@@ -309,7 +320,7 @@ pub(crate) fn entry_of(r: &[u8]) -> Entry
         parent: r[PARENT],
         outcome,
     };
-    let exact = exact_parts(parts) & exact_told(told) & exact_rest(r);
+    let exact = stated.exact & exact_told(told) & (r[SPARE] == 0);
     Entry { task, exact }
 }
 

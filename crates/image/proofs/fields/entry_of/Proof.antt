@@ -1,10 +1,42 @@
 -- `image::fields::entry_of` meets its contract, part by part.
+use Prim.Native.Nat.{ℕ}
+use mathlib.Core.Path.{_≡_, refl, ap}
+use mathlib.Core.Bool.{Bool, true, false, _&&_, and-false}
+use mathlib.Core.List.{List}
+use lib.Dec.{eqb}
 use borrow.Author.Needs.{needs}
+use Rattle.task.specs.declared.task.Outcome.{Outcome}
+use Rattle.image.specs.declared.fields.Parts.{Parts}
+use Rattle.image.specs.declared.fields.Stated.{Stated}
+use Rattle.image.specs.declared.fields.Told.{Told}
+use Rattle.image.specs.Told.{toldOf}
+use Rattle.image.specs.Record.{atState, atPriority, atParent, atPlace, atSpare, byteIn, partsOf, partsIn, toldIn, stateFrom, outcomeFrom, taskFrom}
+use Rattle.image.specs.Exact.{sameParts, sameTold, exactPlace, statedFrom, exactRecord, entryOf}
 use Rattle.image.proofs.Made.{entry-made}
-use Rattle.image.specs.Record.{taskFrom}
-use Rattle.image.specs.Exact.{exactRecord}
 use Rattle.image.proofs.fields.entry_of.Statement.{statement}
 use Rattle.image.proofs.fields.entry_of.Tie as tie
+
+-- the place is asked with the state, and the spare byte last
+regrouped : (a b c d : Bool) → ((a && b) && c && d) ≡ (a && c && (b && d))
+regrouped true true c d = refl
+regrouped true false c d = rw and-false
+regrouped false b c d = refl
+
+-- what a used record gives, from its state with its place
+entry-stated : (r : List ℕ) (parts : Parts) (told : Told) (stated : Stated) (outcome : Outcome) (q : Bool)
+    → (byteIn r atState ≡ 0 → ⊥) → parts ≡ partsIn r → told ≡ toldIn r → stated ≡ statedFrom parts (byteIn r atPlace)
+    → outcome ≡ outcomeFrom told → q ≡ sameTold (toldOf (outcomeFrom told)) told
+    → record {
+      task = record { state = stated .state; priority = byteIn r atPriority; parent = byteIn r atParent; outcome = outcome };
+      exact = stated .exact && q && eqb (byteIn r atSpare) 0;
+    } ≡ entryOf r
+entry-stated r parts told stated outcome q some a b c d e =
+    let same = sameParts (partsOf (stateFrom parts)) parts in
+    let placed = exactPlace (parts .code) (byteIn r atPlace) in
+    let spare = eqb (byteIn r atSpare) 0 in
+    let rest = ap (λ (p : Parts). exactPlace (p .code) (byteIn r atPlace) && spare) a in
+    rw (c, regrouped same placed q spare)
+    (entry-made r parts told (stateFrom parts) outcome same q (placed && spare) some a b refl d refl e rest)
 
 shared-slice-read-if1 : tie.Need-shared-slice-read-if1
 shared-slice-read-if1 c = search needs
@@ -25,39 +57,37 @@ parts-in-requires c κs = search needs
 told-in-requires : tie.Need-told-in-requires
 told-in-requires c κs = search needs
 
-state-from-requires : tie.Need-state-from-requires
-state-from-requires c κs = search needs
+shared-slice-read-stated-from : tie.Need-shared-slice-read-stated-from
+shared-slice-read-stated-from c = search needs
+
+stated-from-requires : tie.Need-stated-from-requires
+stated-from-requires c κs = search needs
 
 outcome-from-requires : tie.Need-outcome-from-requires
 outcome-from-requires c κs = search needs
 
-shared-slice-read-t9 : tie.Need-shared-slice-read-t9
-shared-slice-read-t9 c = search needs
+shared-slice-read-t10 : tie.Need-shared-slice-read-t10
+shared-slice-read-t10 c = search needs
 
-shared-slice-read-t15 : tie.Need-shared-slice-read-t15
-shared-slice-read-t15 c = search needs
-
-exact-parts-requires : tie.Need-exact-parts-requires
-exact-parts-requires c κs = search needs
+shared-slice-read-exact : tie.Need-shared-slice-read-exact
+shared-slice-read-exact c = search needs
 
 exact-told-requires : tie.Need-exact-told-requires
 exact-told-requires c κs = search needs
 
-exact-rest-requires : tie.Need-exact-rest-requires
-exact-rest-requires c κs = search needs
+shared-slice-read-exact-2 : tie.Need-shared-slice-read-exact-2
+shared-slice-read-exact-2 c = search needs
 
 returns-2 : tie.Need-returns-2
 returns-2 c = let asked = c .before .before in
     let from = asked .before .before .before in
-    let read = from .before .before in
-    entry-made (read .before .before .before .before .before .args .r .now) _ _ _ _ _ _ _ (read .before .before .if1 .left)
+    let read = from .before .before .before in
+    entry-stated (read .before .before .before .before .before .args .r .now) _ _ _ _ _ (read .before .before .if1 .left)
     (read .before .parts-in .ensures)
     (read .told-in .ensures)
-    (from .before .state-from .ensures)
+    (from .before .stated-from .ensures)
     (from .outcome-from .ensures)
-    (asked .exact-parts .ensures)
-    (c .before .exact-told .ensures)
-    (c .exact-rest .ensures)
+    (asked .exact-told .ensures)
 
 pub entry-of-spec : {M : Type 1} → statement M
 entry-of-spec =
@@ -69,11 +99,11 @@ entry-of-spec =
     returns
     parts-in-requires
     told-in-requires
-    state-from-requires
+    shared-slice-read-stated-from
+    stated-from-requires
     outcome-from-requires
-    shared-slice-read-t9
-    shared-slice-read-t15
-    exact-parts-requires
+    shared-slice-read-t10
+    shared-slice-read-exact
     exact-told-requires
-    exact-rest-requires
+    shared-slice-read-exact-2
     returns-2)
