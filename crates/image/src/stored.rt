@@ -24,14 +24,19 @@ use task::task::EVENTS;
 use task::task::PRIORITIES;
 use task::task::SLOTS;
 ghost use mathlib.Core.Path.{_≡_};
-ghost use Prim.Native.Nat.{_+_, _≤_, min, max};
-ghost use lib.ListN.{length, set};
+ghost use mathlib.Core.Bool.{not};
+ghost use Prim.Native.Nat.{_+_, _*_, _≤_, _<_, min, max};
+ghost use lib.Dec.{eqb};
+ghost use lib.ListN.{length};
 ghost use lib.Seq.{paste};
+ghost use Rattle.queue.specs.Choose.{choose};
 ghost use Rattle.queue.specs.Row.{places};
 ghost use Rattle.queue.specs.Placed.{placedRow};
+ghost use Rattle.kernel.specs.Numbers.{accepted, badTable, badImage};
 ghost use Rattle.rules.specs.Fresh.{unusedTable};
-ghost use Rattle.image.specs.Record.{recordLength};
-ghost use Rattle.image.specs.Image.{PlacesIn, reading, givenImage, readImage, stored, writeVerdict, written};
+ghost use Rattle.image.specs.Bytes.{recordAt};
+ghost use Rattle.image.specs.Record.{recordLength, placeFrom};
+ghost use Rattle.image.specs.Image.{reading, givenImage, readImage, stored, writeVerdict, written};
 ghost use Rattle.image.specs.Exact.{decodedOf};
 
 // How long an image is.
