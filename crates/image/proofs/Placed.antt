@@ -1,5 +1,5 @@
 -- The rows of a table that was read are made from its tasks and their places.
-use Prim.Native.Nat.{ℕ, zero, suc, _+_, _*_, _≤_, _<_}
+use Prim.Native.Nat.{ℕ, zero, suc, _+_, _*_, _<_}
 use mathlib.Core.Path.{_≡_, refl, sym, ap, _∙_}
 use mathlib.Core.Bool.{Bool, not, _&&_, and-comm}
 use mathlib.Core.List.{List}
@@ -88,7 +88,7 @@ pub given-placed : (n : ℕ) (bytes : List ℕ) → n ≡ priorities → Bytes b
     → verdict ≡ choose (not (eqb (length bytes) (n * recordLength))) badImage (choose good accepted badTable)
     → record { table = d .table; active = active; verdict = verdict } ≡ givenImage n bytes
 unfolding tableUpTo givenImage
-given-placed n bytes same small {d} decoded active good verdict =
+given-placed n bytes same small decoded active good verdict =
     let t = tableOf n bytes in
     rw (verdict, active, good, decoded)
     (by-test (eqb (length bytes) (n * recordLength))

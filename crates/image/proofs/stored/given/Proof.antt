@@ -1,16 +1,15 @@
 -- `image::stored::given` meets its contract: what is asked of the decoded table, of all slots and then of each, and the length.
 -- The loop's invariant: what was asked before the loop and of the slots before `s`.
-use Prim.Native.Nat.{ℕ, _+_, _-_, _*_, _≤_}
+use Prim.Native.Nat.{ℕ, _+_, _-_, _≤_}
 use mathlib.Core.Path.{_≡_, refl, sym, ap, _∙_}
-use mathlib.Core.Bool.{Bool, true, false, _&&_, _||_, and-true, and-assoc}
+use mathlib.Core.Bool.{Bool, _&&_, _||_, and-true, and-assoc}
 use mathlib.Core.Logic.{⊎-elim}
 use mathlib.Core.List.{List}
 use native.Mathlib.Omega.{arith}
-use lib.ListN.{length}
 use lib.Dec.{eqb, leb}
 use borrow.Author.Needs.{needs}
 use borrow.Author.Tests.{le-leb, lt-leb}
-use Rattle.queue.specs.Choose.{choose, allBelow}
+use Rattle.queue.specs.Choose.{allBelow}
 use Rattle.queue.specs.Row.{places}
 use Rattle.queue.specs.Placed.{standsAt}
 use Rattle.queue.proofs.Below.{all-more}
@@ -22,8 +21,6 @@ use Rattle.rules.specs.Good.{sendersKey}
 use Rattle.rules.specs.Check.{goodTogether, slotHeld, slotStands, goodPlaced}
 use Rattle.rules.proofs.Good.{first-used}
 use Rattle.rules.proofs.Walk.{used-found, active-found}
-use Rattle.rules.proofs.Made.{placed-good}
-use Rattle.image.specs.declared.stored.Decoded.{Decoded}
 use Rattle.image.proofs.Shape.{table-shaped}
 use Rattle.image.proofs.Placed.{placeIn, given-placed}
 use Rattle.image.proofs.stored.given.Statement.{statement}
