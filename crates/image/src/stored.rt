@@ -14,21 +14,29 @@ use queue::wide;
 use rules::keys::event_key;
 use rules::keys::ready_key;
 use rules::keys::senders_key;
-use rules::placed::check_placed;
+use rules::slots::good_used;
+use rules::slots::together;
 use task::parts::UNUSED;
 use task::parts::state_code;
+use task::search::first_active;
+use task::search::used_slots;
 use task::task::EVENTS;
 use task::task::PRIORITIES;
 use task::task::SLOTS;
 ghost use mathlib.Core.Path.{_≡_};
-ghost use Prim.Native.Nat.{_+_, _≤_, min, max};
-ghost use lib.ListN.{length, set};
+ghost use mathlib.Core.Bool.{not};
+ghost use Prim.Native.Nat.{_+_, _*_, _≤_, _<_, min, max};
+ghost use lib.Dec.{eqb};
+ghost use lib.ListN.{length};
 ghost use lib.Seq.{paste};
+ghost use Rattle.queue.specs.Choose.{choose};
 ghost use Rattle.queue.specs.Row.{places};
 ghost use Rattle.queue.specs.Placed.{placedRow};
+ghost use Rattle.kernel.specs.Numbers.{accepted, badTable, badImage};
 ghost use Rattle.rules.specs.Fresh.{unusedTable};
-ghost use Rattle.image.specs.Record.{recordLength};
-ghost use Rattle.image.specs.Image.{PlacesIn, reading, givenImage, readImage, stored, writeVerdict, written};
+ghost use Rattle.image.specs.Bytes.{recordAt};
+ghost use Rattle.image.specs.Record.{recordLength, placeFrom};
+ghost use Rattle.image.specs.Image.{reading, givenImage, readImage, stored, writeVerdict, written};
 ghost use Rattle.image.specs.Exact.{decodedOf};
 
 // How long an image is.
@@ -40,15 +48,6 @@ pub struct Reading {
     pub table: Table,
     pub active: usize,
     pub verdict: u8,
-}
-
-// A byte stored; past the end nothing is.
-fn put(xs: &mut [u8], at: usize, byte: u8)
-    ensures { λ r. ⌜ now (xs .exit) ≡ set (now (xs .entry)) at byte ⌝ }
-{
-    if at < xs.len() {
-        xs[at] = byte;
-    }
 }
 
 // The number of places that a row reaches with one more put at a place.
@@ -64,15 +63,15 @@ fn reach(len: u8, place: u8) -> u8
 }
 
 // A tid put at a place, which the row then reaches.
-fn placed_row(q: Queue, place: u8, tid: u8) -> Queue
+fn placed_row(mut q: Queue, place: u8, tid: u8) -> Queue
     ensures { λ r. ⌜ r ≡ placedRow q place tid ⌝ }
 {
-    let mut tids = q.tids;
-    put(&mut tids, place as usize, tid);
-    Queue {
-        tids,
-        len: reach(q.len, place),
+    let p = place as usize;
+    if p < SLOTS {
+        q.tids[p] = tid;
     }
+    q.len = reach(q.len, place);
+    q
 }
 
 // The table that an image gives, and whether every record is what its task is written as.
@@ -86,10 +85,11 @@ fn decode(bytes: &[u8]) -> Decoded
     ensures { λ r. ⌜ r ≡ decodedOf places (now (bytes .entry)) ⌝ }
 {
     let count = if bytes.len() == IMAGE { SLOTS } else { 0 };
+    let none = [Queue::empty(); SLOTS];
     let mut table = Table {
         tasks: [no_task(); SLOTS],
-        ready: [Queue::empty(); PRIORITIES],
-        senders: [Queue::empty(); SLOTS],
+        ready: none,
+        senders: none,
         waiters: [0; EVENTS],
     };
     let mut exact = true;
@@ -122,20 +122,13 @@ fn decode(bytes: &[u8]) -> Decoded
     Decoded { table, exact }
 }
 
-// The place of each slot, as its record has it; 0 where the bytes have no such record.
-fn places_in(bytes: &[u8]) -> [u8; SLOTS]
-    ensures { λ r. ⌜ PlacesIn places (now (bytes .entry)) r ⌝ }
+// The place of a slot, as its record has it; 0 where the bytes have no such record.
+fn place_in(bytes: &[u8], s: usize) -> u8
+    requires { ⌜ s < places ⌝ }
+    ensures { λ r. ⌜ r ≡ placeFrom (recordAt recordLength (now (bytes .entry)) s) ⌝ }
 {
-    let mut at = [0; SLOTS];
-    let mut s = 0;
-    while s < SLOTS {
-        let p = s * RECORD + PLACE;
-        if p < bytes.len() {
-            at[s] = bytes[p];
-        }
-        s += 1;
-    }
-    at
+    let p = s * RECORD + PLACE;
+    if p < bytes.len() { bytes[p] } else { 0 }
 }
 
 // A record copied into an image.
@@ -210,25 +203,53 @@ fn refused(verdict: u8) -> Reading
     }
 }
 
-// The table that the bytes give, with the verdict on them. It has one way out, and makes no table of its own where it
-// refuses, so that the decoded one is handed on in place.
+fn verdict_on(len: usize, good: bool) -> u8
+    ensures { λ r. ⌜ r ≡ choose (not (eqb len (places * recordLength))) badImage (choose good accepted badTable) ⌝ }
+{
+    if len != IMAGE {
+        return BAD_IMAGE;
+    }
+    if good { ACCEPTED } else { BAD_TABLE }
+}
+
+// The table that the bytes give, with the verdict on them. Its rows were made from its tasks and their places, so no row is walked over:
+// each task is asked whether it stands at its place. It has one way out, and makes no table of its own where it refuses, so that the
+// decoded one is handed on in place.
 pub fn given(bytes: &[u8]) -> Reading
     ensures { λ r. ⌜ r ≡ givenImage places (now (bytes .entry)) ⌝ }
 {
     let decoded = decode(bytes);
     let table = decoded.table;
-    let checked = check_placed(table, places_in(bytes));
-    let mut verdict = BAD_TABLE;
-    if checked.good & decoded.exact {
-        verdict = ACCEPTED;
-    }
-    if bytes.len() != IMAGE {
-        verdict = BAD_IMAGE;
+    let tasks = table.tasks;
+    let used = used_slots(tasks);
+    let active = first_active(tasks);
+    let mut good = decoded.exact & together(tasks, table.ready, used, active);
+    let mut s = 0;
+    while s < used {
+        let x = table.tasks[s];
+        let tid = s as u8 + 1;
+        let place = place_in(bytes, s);
+        good &= good_used(x, used, s, active, table.senders[s].len);
+        let k = ready_key(x);
+        if k < PRIORITIES {
+            let row = table.ready[k];
+            good &= row.stands(place, tid);
+        }
+        let g = senders_key(x);
+        if g < SLOTS {
+            let row = table.senders[g];
+            good &= row.stands(place, tid);
+        }
+        let e = event_key(x);
+        if e < EVENTS {
+            good &= table.waiters[e] == tid;
+        }
+        s += 1;
     }
     Reading {
         table,
-        active: checked.active,
-        verdict,
+        active,
+        verdict: verdict_on(bytes.len(), good),
     }
 }
 

@@ -6,6 +6,7 @@ use Rattle.queue.proofs.Queue.empty.Reads as empty
 use Rattle.queue.proofs.Queue.pushed.Reads as pushed
 use Rattle.queue.proofs.Queue.popped.Reads as popped
 use Rattle.queue.proofs.Queue.place_of.Reads as place-of
+use Rattle.queue.proofs.Queue.stands.Reads as stands
 use Rattle.queue.proofs.slot.Reads as slot
 use Rattle.queue.proofs.wide.Reads as wide
 use Rattle.queue.proofs.first_filled.Reads as first-filled
@@ -22,6 +23,9 @@ popped-determined κs a r r′ s s′ p p′ = (p ∙⁻¹ p′, refl)
 
 place-of-determined : (κs : _) (a : _) → DeterminesResult (place-of.Post κs a)
 place-of-determined κs a r r′ s s′ p p′ = (p ∙⁻¹ p′, refl)
+
+stands-determined : (κs : _) (a : _) → DeterminesResult (stands.Post κs a)
+stands-determined κs a r r′ s s′ p p′ = (p ∙⁻¹ p′, refl)
 
 -- its promise has a bound beside the equation
 slot-determined : (κs : _) (a : _) → DeterminesResult (slot.Post κs a)

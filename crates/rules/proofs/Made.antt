@@ -28,30 +28,30 @@ rows-made : (n : ℕ) (rows : List Queue) (key place : ℕ → ℕ) → rows ≡
 rows-made n rows key place e = rw e (made-kept n key place)
 
 -- the rows and the names of n tasks, each at its place
-pub record Made (n : ℕ) (t : Table) (at : List ℕ) : Type 0 where
+pub record Made (n : ℕ) (t : Table) (place : ℕ → ℕ) : Type 0 where
   pub size : slots t ≡ n
-  pub ready : t .ready ≡ madeRows n (λ s. readyKey (taskAt t s)) (λ s. getD at s 0) n
-  pub senders : t .senders ≡ madeRows n (λ s. sendersKey n (taskAt t s)) (λ s. getD at s 0) n
+  pub ready : t .ready ≡ madeRows n (λ s. readyKey (taskAt t s)) place n
+  pub senders : t .senders ≡ madeRows n (λ s. sendersKey n (taskAt t s)) place n
   pub waiters : t .waiters ≡ madeNames events (λ s. eventKey (taskAt t s)) n
 
-module _ (n : ℕ) (t : Table) (at : List ℕ) (same : n ≡ priorities) (made : Made n t at) where
+module _ (n : ℕ) (t : Table) (place : ℕ → ℕ) (same : n ≡ priorities) (made : Made n t place) where
   -- what is asked of a slot beside `slotHeld`, one by one
   standsReady : ℕ → Bool
-  standsReady s = leb n (readyKey (taskAt t s)) || standsAt (readyRow t (readyKey (taskAt t s))) (getD at s 0) (s + 1)
+  standsReady s = leb n (readyKey (taskAt t s)) || standsAt (readyRow t (readyKey (taskAt t s))) (place s) (s + 1)
 
   standsSenders : ℕ → Bool
-  standsSenders s = leb n (sendersKey n (taskAt t s)) || standsAt (sendersRow t (sendersKey n (taskAt t s))) (getD at s 0) (s + 1)
+  standsSenders s = leb n (sendersKey n (taskAt t s)) || standsAt (sendersRow t (sendersKey n (taskAt t s))) (place s) (s + 1)
 
   named : ℕ → Bool
   named s = leb events (eventKey (taskAt t s)) || eqb (waiterAt t (eventKey (taskAt t s))) (s + 1)
 
   ready-kept : rowsKept n (t .ready) (λ s. readyKey (taskAt t s)) ≡ allBelow n standsReady
   unfolding standsReady
-  ready-kept = rows-made n (t .ready) (λ s. readyKey (taskAt t s)) (λ s. getD at s 0) (made .ready)
+  ready-kept = rows-made n (t .ready) (λ s. readyKey (taskAt t s)) place (made .ready)
 
   senders-kept : rowsKept n (t .senders) (λ s. sendersKey n (taskAt t s)) ≡ allBelow n standsSenders
   unfolding standsSenders
-  senders-kept = rows-made n (t .senders) (λ s. sendersKey n (taskAt t s)) (λ s. getD at s 0) (made .senders)
+  senders-kept = rows-made n (t .senders) (λ s. sendersKey n (taskAt t s)) place (made .senders)
 
   -- an event's key is the event that is awaited, where one is
   key-awaited : (s : ℕ) → isEventBlocked (taskAt t s .state) ≡ true → eventKey (taskAt t s) ≡ awaited (taskAt t s .state)
@@ -82,7 +82,7 @@ module _ (n : ℕ) (t : Table) (at : List ℕ) (same : n ≡ priorities) (made :
           (λ b. true-both b (eq-eqb (awaited (taskAt t s .state)) e (sym (key-awaited s b) ∙ key)))
           (λ b. let far : events ≡ e = (rw b at key) in absurd (omega arith))
 
-  stands-is : (s : ℕ) → slotStands t at s ≡ (standsReady s && standsSenders s && named s)
+  stands-is : (s : ℕ) → slotStands t place s ≡ (standsReady s && standsSenders s && named s)
   unfolding standsReady standsSenders named
   stands-is s = rw (made .size, same)
 
@@ -103,13 +103,13 @@ module _ (n : ℕ) (t : Table) (at : List ℕ) (same : n ≡ priorities) (made :
     | no h ↦ rw (late s (omega arith), le-leb n n (omega arith))
   ]
 
-  placed-then-good : goodPlaced t at ≡ true → goodTable t ≡ true
+  placed-then-good : goodPlaced t place ≡ true → goodTable t ≡ true
   unfolding goodPlaced
   placed-then-good h =
       let (front, each) = both-true (leb 1 (usedSlots t) && allBelow (slots t) (slotPast t) && (ltb (activeSlot t) (slots t) || allBelow priorities (λ p. eqb (readyRow t p .len) 0))) _ h in
       let (more, idle) = both-true (leb 1 (usedSlots t) && allBelow (slots t) (slotPast t)) _ front in
       let (some, others) = both-true (leb 1 (usedSlots t)) _ more in
-      let asked = all-below (usedSlots t) (λ s. slotHeld t s && slotStands t at s) each in
+      let asked = all-below (usedSlots t) (λ s. slotHeld t s && slotStands t place s) each in
       let stood : (s : ℕ) → s < usedSlots t → (standsReady s && standsSenders s && named s) ≡ true =
       λ s l. sym (stands-is s) ∙ both-true (slotHeld t s) _ (asked s l) .1 in
       let rest = all-below n (slotPast t) (rw (made .size) at others) in
@@ -127,7 +127,7 @@ module _ (n : ℕ) (t : Table) (at : List ℕ) (same : n ≡ priorities) (made :
         all-wait,
       )
 
-  good-then-placed : goodTable t ≡ true → goodPlaced t at ≡ true
+  good-then-placed : goodTable t ≡ true → goodPlaced t place ≡ true
   unfolding goodTable goodTasks goodActive goodReady goodSenders goodPlaced
   good-then-placed e =
       let (rest, fine) = good-slots n t (made .size) e in
@@ -139,12 +139,12 @@ module _ (n : ℕ) (t : Table) (at : List ℕ) (same : n ≡ priorities) (made :
       let stands-senders = all-below n standsSenders (sym senders-kept ∙ (rw (made .size) at (both-true (rowsKept (slots t) (t .senders) (λ s. sendersKey (slots t) (taskAt t s))) _ senders .0))) in
       true-both
       (true-both (true-both (both-true (leb 1 (usedSlots t)) _ tasks .0) (rw (made .size) rest)) (both-true (allBelow (slots t) (slotAlone t)) _ active .1))
-      (below-all (usedSlots t) (λ s. slotHeld t s && slotStands t at s)
+      (below-all (usedSlots t) (λ s. slotHeld t s && slotStands t place s)
       (λ s l.
       let inside : s < n = omega (arith, first-used t .most, made .size) in
       let (held, is-named) = both-true (slotHeld t s) _ (all-below (usedSlots t) (slotFine t) fine s l) in
       true-both held
       (stands-is s ∙ true-both (true-both (stands-ready s inside) (stands-senders s inside)) (named-slot s held ∙ is-named))))
 
-  pub placed-good : goodPlaced t at ≡ goodTable t
+  pub placed-good : goodPlaced t place ≡ goodTable t
   placed-good = same-test placed-then-good good-then-placed

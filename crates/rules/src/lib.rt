@@ -1,7 +1,6 @@
 // The rules of a table, whether a table keeps them, and the tables that a kernel starts from.
 pub mod keys;
-pub mod placed;
-mod slots;
+pub mod slots;
 
 ghost use mathlib.Core.Path.{_≡_};
 ghost use Rattle.queue.specs.Row.{places};
@@ -9,10 +8,9 @@ ghost use Rattle.rules.specs.Check.{checked};
 ghost use Rattle.rules.specs.Fresh.{unusedTable, started};
 use crate::keys::event_key;
 use crate::slots::good_used;
-use crate::slots::idle;
 use crate::slots::none_left;
-use crate::slots::rest_unused;
 use crate::slots::target_slot;
+use crate::slots::together;
 use kernel::numbers::ACCEPTED;
 use kernel::numbers::BAD_PRIORITY;
 use kernel::table::Table;
@@ -70,10 +68,8 @@ pub fn check(table: Table) -> Checked
         s += 1;
     }
     let ready_rows = table.ready;
-    let good = (1 <= used)
-        & rest_unused(tasks, used)
+    let good = together(tasks, ready_rows, used, active)
         & good
-        & idle(ready_rows, active)
         & queue::rows_kept(ready_rows, ready)
         & queue::rows_kept(senders_rows, senders)
         & none_left(waiters);

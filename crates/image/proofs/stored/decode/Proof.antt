@@ -34,20 +34,20 @@ abbrev μ-loop : tie.MeasureT-loop
 μ-loop bytes count table₀ exact₀ s₀ table exact s = count - s
 
 -- every record is counted, or none
-counted : (c : tie.At-loop Inv-loop μ-loop) → let joined = c .before .before .before .before in
+counted : (c : tie.At-loop Inv-loop μ-loop) → let joined = c .before .before .before in
     joined .if1 .count ≡ recordsIn places (joined .before .before .args .bytes .now)
 counted c =
-    let joined = c .before .before .before .before in
+    let joined = c .before .before .before in
     let len : ℕ = length (joined .before .before .args .bytes .now) in
     ⊎-elim (λ w. rw (w .1, eq-eqb len (places * recordLength) (w .0 .taken)))
     (λ w. rw (w .1, ne-eqb len (places * recordLength) (w .0 .left)))
     (joined .if1 .came)
 
 -- where one is read, all are there
-whole : (c : tie.In-loop Inv-loop μ-loop) → let joined = c .before .before .before .before .before in
+whole : (c : tie.In-loop Inv-loop μ-loop) → let joined = c .before .before .before .before in
     length (joined .before .before .args .bytes .now) ≡ places * recordLength
 whole c =
-    let joined = c .before .before .before .before .before in
+    let joined = c .before .before .before .before in
     ⊎-elim (λ w. w .0 .taken) (λ w. absurd (omega (arith, w .1))) (joined .if1 .came)
 
 -- the part that is lent is the record
@@ -62,26 +62,23 @@ part bytes s =
 -- the records up to this one are exact or not
 exact-more : (c : tie.After-entry-of Inv-loop μ-loop) → let at = c .before .before .before in
     (at .loop .exact && c .entry-of .result .exact)
-    ≡ exactUpTo (at .before .before .before .before .before .before .args .bytes .now) (at .loop .s + 1)
+    ≡ exactUpTo (at .before .before .before .before .before .args .bytes .now) (at .loop .s + 1)
 exact-more c =
     let at = c .before .before .before in
     rw (all-more, at .loop .inv .3, ap (λ (e : Entry). e .exact) (c .entry-of .ensures), part _ (at .loop .s))
 
-no-task-requires : tie.Need-no-task-requires Inv-loop μ-loop
-no-task-requires c κs = search needs
-
 empty-requires : tie.Need-empty-requires Inv-loop μ-loop
 empty-requires c κs = search needs
 
-empty-requires-2 : tie.Need-empty-requires-2 Inv-loop μ-loop
-empty-requires-2 c κs = search needs
+no-task-requires : tie.Need-no-task-requires Inv-loop μ-loop
+no-task-requires c κs = search needs
 
 loop-holds : tie.Need-loop-holds Inv-loop μ-loop
 unfolding tableUpTo allBelow
 loop-holds c =
-    let few : c .before .before .before .if1 .count ≤ places =
-    ⊎-elim (λ w. omega (arith, w .1)) (λ w. omega (arith, w .1)) (c .before .before .before .if1 .came) in
-    (omega arith, few, rw (c .before .before .no-task .ensures, c .before .empty .ensures, c .empty2 .ensures), refl)
+    let few : c .before .before .if1 .count ≤ places =
+    ⊎-elim (λ w. omega (arith, w .1)) (λ w. omega (arith, w .1)) (c .before .before .if1 .came) in
+    (omega arith, few, rw (c .before .empty .ensures, c .no-task .ensures), refl)
 
 mul-at : tie.Need-mul-at Inv-loop μ-loop
 mul-at c = search needs
@@ -143,8 +140,8 @@ element-copy-out-placed-row c = search needs
 placed-row-requires : tie.Need-placed-row-requires Inv-loop μ-loop
 placed-row-requires c κs = search needs
 
-mul-t40 : tie.Need-mul-t40 Inv-loop μ-loop
-mul-t40 c = search needs
+mul-t38 : tie.Need-mul-t38 Inv-loop μ-loop
+mul-t38 c = search needs
 
 element-set-from-table : tie.Need-element-set-from-table Inv-loop μ-loop
 element-set-from-table c = search needs
@@ -161,8 +158,8 @@ element-copy-out-placed-row-2 c = search needs
 placed-row-requires-2 : tie.Need-placed-row-requires-2 Inv-loop μ-loop
 placed-row-requires-2 c κs = search needs
 
-mul-t48 : tie.Need-mul-t48 Inv-loop μ-loop
-mul-t48 c = search needs
+mul-t46 : tie.Need-mul-t46 Inv-loop μ-loop
+mul-t46 c = search needs
 
 element-set-from-table-2 : tie.Need-element-set-from-table-2 Inv-loop μ-loop
 element-set-from-table-2 c = search needs
@@ -185,7 +182,7 @@ loop-again-2 c = let keyed = c .before in
     let first = second .before .before in
     let entry = first .before .before .before .before .before .before .before in
     let at = entry .before .before .before in
-    let bytes : List ℕ = at .before .before .before .before .before .before .args .bytes .now in
+    let bytes : List ℕ = at .before .before .before .before .before .args .bytes .now in
     let s : ℕ = at .loop .s in
     let t : Table = at .loop .table in
     let shape : Shaped places t = rw (at .loop .inv .2) (table-shaped places bytes s) in
@@ -223,8 +220,8 @@ loop-again-2 c = let keyed = c .before in
 
 returns : tie.Need-returns Inv-loop μ-loop
 returns c = let at = c .before in
-    let bytes : List ℕ = at .before .before .before .before .before .before .args .bytes .now in
-    let all : at .loop .s ≡ at .before .before .before .before .if1 .count = omega arith in
+    let bytes : List ℕ = at .before .before .before .before .before .args .bytes .now in
+    let all : at .loop .s ≡ at .before .before .before .if1 .count = omega arith in
     let end = all ∙ counted at in
     let table = at .loop .inv .2 ∙ ap (tableUpTo places bytes) end in
     let exact = at .loop .inv .3 ∙ ap (exactUpTo bytes) end in
@@ -236,9 +233,8 @@ decode-spec =
     (tie.spec
     Inv-loop
     μ-loop
-    no-task-requires
     empty-requires
-    empty-requires-2
+    no-task-requires
     loop-holds
     mul-at
     add-r
@@ -259,13 +255,13 @@ decode-spec =
     mul-placed-row
     element-copy-out-placed-row
     placed-row-requires
-    mul-t40
+    mul-t38
     element-set-from-table
     senders-key-requires
     mul-placed-row-2
     element-copy-out-placed-row-2
     placed-row-requires-2
-    mul-t48
+    mul-t46
     element-set-from-table-2
     event-key-requires
     element-write-table

@@ -1,4 +1,4 @@
--- `rules::placed::stands` meets its contract, by where the place is.
+-- `queue::Queue::stands` meets its contract, by where the place is.
 use Prim.Native.Nat.{_<_}
 use mathlib.Core.Path.{_≡_}
 use mathlib.Core.Bool.{and-true}
@@ -6,15 +6,15 @@ use native.Mathlib.Omega.{arith}
 use lib.ListN.{length}
 use borrow.Author.Needs.{needs}
 use borrow.Author.Tests.{lt-ltb, le-ltb, ne-eqb}
 use Rattle.queue.specs.Row.{places}
 use Rattle.queue.specs.Placed.{standsAt}
-use Rattle.rules.proofs.placed.stands.Statement.{statement}
-use Rattle.rules.proofs.placed.stands.Tie as tie
+use Rattle.queue.proofs.Queue.stands.Statement.{statement}
+use Rattle.queue.proofs.Queue.stands.Tie as tie
 
 returns : tie.Need-returns
 unfolding standsAt
 returns c =
-    let l : length (c .before .before .args .row .tids) ≡ places = search needs in
+    let l : length (c .before .before .args .self .tids) ≡ places = search needs in
     rw (l, le-ltb _ places (c .if1 .taken))
 
 array-read-result : tie.Need-array-read-result
@@ -23,7 +23,7 @@ array-read-result c = search needs
 returns-2 : tie.Need-returns-2
 unfolding standsAt
 returns-2 c =
-    let l : length (c .before .before .before .args .row .tids) ≡ places = search needs in
+    let l : length (c .before .before .before .args .self .tids) ≡ places = search needs in
     let z : c .before .before .before .args .place ≡ 0 = c .if2 .taken in
     rw (l, z) (simp and-true)
 
@@ -39,7 +39,7 @@ array-read-result-3 c = search needs
 returns-3 : tie.Need-returns-3
 unfolding standsAt
 returns-3 c =
-    let l : length (c .before .before .before .args .row .tids) ≡ places = search needs in
+    let l : length (c .before .before .before .args .self .tids) ≡ places = search needs in
     let p = c .before .before .before .args .place in
     let inside : p < places = omega (arith, c .before .if1 .left) in
     rw (l, lt-ltb p places inside, ne-eqb p 0 (c .if2 .left))
