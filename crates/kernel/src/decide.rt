@@ -164,7 +164,7 @@ impl Table {
         }
     }
 
-    // The kinds that neither read nor change the table: by themselves they leave it to the compiler in one piece.
+    // The kinds that neither read nor change the table. By themselves, so that the compiler copies it for all of them in one place.
     fn turned_plain(self, c: usize, r: Request) -> Turn
         requires { ⌜ Enters places c r × Plain (r .kind) ⌝ }
         ensures { λ u. ⌜ u ≡ turnOf self c r ⌝ }
