@@ -41,6 +41,6 @@ pub(crate) fn waiting(tally: Tally) -> Tally {
         .sent(b"a sender queued at an exited task", 5, 5)
         .sent(b"a sender queued at an event-blocked task", 2, 2)
         .sent(b"a sender queued at tid 12, the last used", 12, 12)
-        .waits(b"a task waits for event 0", 0)
-        .waits(b"a task waits for event 63", 63)
+        .waits(b"a task waits for event 0", 0, 2, 0, 1)
+        .waits(b"a task waits for event 63", 63, 2, 0, 1)
 }

@@ -8,10 +8,10 @@ use kernel::numbers::SEND;
 use kernel::table::Request;
 use kernel::table::Table;
 use libc::STDOUT_FILENO;
-use queue::NO_ROW;
 use task::parts::state_code;
-use task::task::AREA;
-use task::task::SLOTS;
+use tid::sizes::AREA;
+use tid::sizes::SLOTS;
+use tid::tid_of;
 
 // A request of the active task. A Send's message has 4 bytes, and its reply is awaited in 4 bytes from 8 on.
 fn asked(table: Table, kind: u32, arg0: u32, arg1: u32) -> Table {
@@ -66,8 +66,8 @@ pub(crate) fn idle(table: Table) -> Table {
 }
 
 // The number of a task's state.
-fn write_state(table: Table, tid: u8) {
-    let task = task_of(table, tid);
+fn write_state(table: Table, s: usize) {
+    let task = task_of(table, tid_of(s));
     let state = task.state;
     io::write_all(STDOUT_FILENO, b" ");
     io::print_decimal(STDOUT_FILENO, state_code(state) as u64);
@@ -75,9 +75,9 @@ fn write_state(table: Table, tid: u8) {
 
 // The states of all slots, so that the busy table is seen to be busy.
 pub(crate) fn write_states(table: Table) {
-    let mut tid = 1;
-    while tid <= NO_ROW {
-        write_state(table, tid);
-        tid += 1;
+    let mut s = 0;
+    while s < SLOTS {
+        write_state(table, s);
+        s += 1;
     }
 }

@@ -7,13 +7,17 @@ use crate::put::row;
 use crate::put::with_outcome;
 use crate::put::with_parent;
 use crate::put::with_priority;
+use crate::put::with_queue;
 use crate::put::with_ready;
 use crate::put::with_senders;
 use crate::put::with_state;
 use crate::put::with_task;
-use crate::put::with_waiter;
+use crate::put::with_waiters;
 use crate::tally::Tally;
+use kernel::table::Table;
 use queue::Queue;
+use queue::numbering::event_queue;
+use queue::numbering::ready_queue;
 use task::task::Outcome;
 use task::task::State;
 
@@ -135,20 +139,45 @@ impl Tally {
 
 // Events.
 impl Tally {
-    pub(crate) fn waiter(self, name: &[u8], event: u8, tid: u8) -> Self {
-        self.found(name, with_waiter(busy(), event, tid))
+    pub(crate) fn waiters(self, name: &[u8], event: u8, a: u8, b: u8, len: u8) -> Self {
+        self.found(name, with_waiters(busy(), event, row(a, b, 0, len)))
     }
 
-    // The tids that events 3 and 5 name.
-    pub(crate) fn waiters(self, name: &[u8], third: u8, fifth: u8) -> Self {
-        let table = with_waiter(busy(), 3, third);
-        self.found(name, with_waiter(table, 5, fifth))
+    pub(crate) fn waiters_last(self, name: &[u8], event: u8, tid: u8) -> Self {
+        self.found(name, with_waiters(busy(), event, last_place(tid)))
     }
 
-    // Tid 2 waits for another event than 3.
-    pub(crate) fn waits(self, name: &[u8], event: u8) -> Self {
-        let unnamed = with_waiter(busy(), 3, 0);
-        let waiting = with_state(unnamed, 2, State::EventBlocked(event));
-        self.found(name, with_waiter(waiting, event, 2))
+    // Tids 2 and 3 stand in each other's queues.
+    pub(crate) fn exchanged(self, name: &[u8]) -> Self {
+        let table = with_waiters(busy(), 3, row(3, 0, 0, 1));
+        self.found(name, with_waiters(table, 5, row(2, 0, 0, 1)))
+    }
+
+    // Tid 2 waits for another event than 3, in whose queue two may stand.
+    pub(crate) fn waits(self, name: &[u8], event: u8, a: u8, b: u8, len: u8) -> Self {
+        let table = waiting_for(event);
+        self.found(name, with_waiters(table, event, row(a, b, 0, len)))
+    }
+}
+
+// Tid 2 waits for another event than 3, and stands in no queue.
+fn waiting_for(event: u8) -> Table {
+    let left = with_waiters(busy(), 3, Queue::empty());
+    with_state(left, 2, State::EventBlocked(event))
+}
+
+// Past the last priority the numbers of the events begin, and past the last event those of the send queues.
+impl Tally {
+    // Tid 12, ready at priority 32, stands in the queue of event 0.
+    pub(crate) fn moved_past(self, name: &[u8]) -> Self {
+        let left = with_ready(busy(), 20, row(11, 0, 0, 1));
+        let lifted = with_priority(left, 12, 32);
+        self.found(name, with_queue(lifted, ready_queue(32), row(12, 0, 0, 1)))
+    }
+
+    // Tid 2, which waits for event 64, stands in the send queue of tid 1.
+    pub(crate) fn waits_past(self, name: &[u8]) -> Self {
+        let table = waiting_for(64);
+        self.found(name, with_queue(table, event_queue(64), row(10, 2, 0, 2)))
     }
 }

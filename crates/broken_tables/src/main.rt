@@ -37,7 +37,8 @@ fn break_senders(tally: Tally) -> Tally {
 }
 
 fn break_events(tally: Tally) -> Tally {
-    events::waiting(events::strangers(events::named(tally)))
+    let others = events::others(events::once(tally));
+    events::waiting(events::ends(events::strangers(others)))
 }
 
 fn keep_rules(tally: Tally) -> Tally {

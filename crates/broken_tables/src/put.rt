@@ -1,32 +1,36 @@
 // A table with one part put in, all else as it was. A slot, a row or an event past the last changes nothing.
 // Nothing keeps the rules here: these are the hands that break them.
 use kernel::table::Table;
-use queue::PLACES;
 use queue::Queue;
-use queue::slot;
+use queue::numbering::PLACES;
+use queue::numbering::QUEUES;
+use queue::numbering::event_queue;
+use queue::numbering::ready_queue;
+use queue::numbering::send_queue;
 use queue::wide;
 use task::task::Buffer;
-use task::task::EVENTS;
 use task::task::Outcome;
-use task::task::PRIORITIES;
-use task::task::SLOTS;
 use task::task::State;
 use task::task::Task;
+use tid::sizes::EVENTS;
+use tid::sizes::PRIORITIES;
+use tid::sizes::SLOTS;
+use tid::slot_named;
 
-// A row whose first places hold three tids, and zeros behind them.
+// A row whose first places hold three marks, and zeros behind them.
 pub(crate) fn row(first: u8, second: u8, third: u8, len: u8) -> Queue {
-    let mut tids = [0; PLACES];
-    tids[0] = first;
-    tids[1] = second;
-    tids[2] = third;
-    Queue { tids, len }
+    let mut marks = [0; PLACES];
+    marks[0] = first;
+    marks[1] = second;
+    marks[2] = third;
+    Queue { marks, len }
 }
 
-// An empty row whose last place holds a tid.
-pub(crate) fn last_place(tid: u8) -> Queue {
-    let mut tids = [0; PLACES];
-    tids[PLACES - 1] = tid;
-    Queue { tids, len: 0 }
+// An empty row whose last place holds a mark.
+pub(crate) fn last_place(mark: u8) -> Queue {
+    let mut marks = [0; PLACES];
+    marks[PLACES - 1] = mark;
+    Queue { marks, len: 0 }
 }
 
 pub(crate) fn buffer(start: u32, len: u32) -> Buffer {
@@ -44,7 +48,7 @@ pub(crate) fn bare(state: State, parent: u8) -> Task {
 }
 
 pub(crate) fn with_task(mut table: Table, tid: u8, task: Task) -> Table {
-    let s = slot(tid);
+    let s = slot_named(tid);
     if s < SLOTS {
         table.tasks[s] = task;
     }
@@ -52,7 +56,7 @@ pub(crate) fn with_task(mut table: Table, tid: u8, task: Task) -> Table {
 }
 
 pub(crate) fn task_of(table: Table, tid: u8) -> Task {
-    let s = slot(tid);
+    let s = slot_named(tid);
     if s < SLOTS {
         return table.tasks[s];
     }
@@ -109,29 +113,31 @@ pub(crate) fn with_parent(table: Table, tid: u8, parent: u8) -> Table {
     with_task(table, tid, task)
 }
 
+// A queue by its number.
+pub(crate) fn with_queue(mut table: Table, k: usize, row: Queue) -> Table {
+    if k < QUEUES {
+        table.queues[k] = row;
+    }
+    table
+}
+
 // The ready queue of a priority.
-pub(crate) fn with_ready(mut table: Table, priority: u8, row: Queue) -> Table {
-    let p = wide(priority);
-    if p < PRIORITIES {
-        table.ready[p] = row;
+pub(crate) fn with_ready(table: Table, priority: u8, row: Queue) -> Table {
+    if wide(priority) < PRIORITIES {
+        return with_queue(table, ready_queue(priority), row);
     }
     table
 }
 
 // The send queue of a task.
-pub(crate) fn with_senders(mut table: Table, tid: u8, row: Queue) -> Table {
-    let s = slot(tid);
-    if s < SLOTS {
-        table.senders[s] = row;
-    }
-    table
+pub(crate) fn with_senders(table: Table, tid: u8, row: Queue) -> Table {
+    with_queue(table, send_queue(tid), row)
 }
 
-// The task that an event names.
-pub(crate) fn with_waiter(mut table: Table, event: u8, tid: u8) -> Table {
-    let e = wide(event);
-    if e < EVENTS {
-        table.waiters[e] = tid;
+// The waiters of an event.
+pub(crate) fn with_waiters(table: Table, event: u8, row: Queue) -> Table {
+    if wide(event) < EVENTS {
+        return with_queue(table, event_queue(event), row);
     }
     table
 }

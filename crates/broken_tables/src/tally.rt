@@ -5,8 +5,8 @@ use kernel::table::Request;
 use kernel::table::Table;
 use libc::STDOUT_FILENO;
 use std::num::wrapping_add_u64;
-use task::task::AREA;
-use task::task::SLOTS;
+use tid::sizes::AREA;
+use tid::sizes::SLOTS;
 
 // How many tables of a kind, good ones or broken ones, were tried, and how many of them were found to be so.
 pub(crate) struct Tally {

@@ -42,6 +42,7 @@ pub(crate) fn active(tally: Tally) -> Tally {
 pub(crate) fn priorities(tally: Tally) -> Tally {
     tally
         .moved(b"a ready task of priority 32, in no queue", 32)
+        .moved_past(b"a ready task of priority 32, in the queue of event 0")
         .priority(b"the active task has priority 32", 6, 32)
         .priority(b"a reply-blocked task has priority 32", 7, 32)
         .priority(b"an exited task has priority 255", 5, 255)

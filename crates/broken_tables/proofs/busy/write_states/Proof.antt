@@ -1,15 +1,16 @@
--- `broken_tables::busy::write_states` ends: fewer tids are left at each turn.
+-- `broken_tables::busy::write_states` ends: fewer slots are left at each turn.
 use Prim.Native.Nat.{_≤_, _-_}
+use Rattle.tid.specs.Sizes.{slotCount}
 use borrow.Author.Needs.{needs}
 use native.Mathlib.Omega.{arith}
 use Rattle.broken_tables.proofs.busy.write_states.Statement.{statement}
 use Rattle.broken_tables.proofs.busy.write_states.Tie as tie
 
 abbrev Inv-loop : tie.InvT-loop
-Inv-loop table tid₀ tid = tid ≤ 33
+Inv-loop table s₀ s = s ≤ slotCount
 
 abbrev μ-loop : tie.MeasureT-loop
-μ-loop table tid₀ tid = 33 - tid
+μ-loop table s₀ s = slotCount - s
 
 loop-holds : tie.Need-loop-holds Inv-loop μ-loop
 loop-holds c = omega arith
@@ -17,8 +18,8 @@ loop-holds c = omega arith
 write-state-requires : tie.Need-write-state-requires Inv-loop μ-loop
 write-state-requires c κs = search needs
 
-add-tid : tie.Need-add-tid Inv-loop μ-loop
-add-tid c = omega arith
+add-s : tie.Need-add-s Inv-loop μ-loop
+add-s c = omega arith
 
 loop-less : tie.Need-loop-less Inv-loop μ-loop
 loop-less c = omega arith
@@ -32,4 +33,4 @@ returns c = search needs
 pub write-states-spec : {M : Type 1} → statement M
 write-states-spec =
     tie.close
-    (tie.spec Inv-loop μ-loop loop-holds write-state-requires add-tid loop-less loop-again returns)
+    (tie.spec Inv-loop μ-loop loop-holds write-state-requires add-s loop-less loop-again returns)

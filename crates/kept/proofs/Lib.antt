@@ -1,0 +1,6 @@
+pub mod Tasks
+pub mod Change
+pub mod Moves
+pub mod Woken
+pub mod Entries
+pub mod Kept

@@ -1,0 +1,1 @@
+// Theorems alone, in proofs/: every decision leaves a table that keeps the rules.

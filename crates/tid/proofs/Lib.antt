@@ -1,0 +1,2 @@
+pub mod Byte
+mod Determined
