@@ -7,7 +7,7 @@ use lib.ListN.{length, set}
 use lib.Seq.{set-out}
 use borrow.Author.Needs.{needs}
 use Rattle.queue.specs.declared.Queue.{Queue}
-use Rattle.queue.specs.Row.{places}
+use Rattle.queue.specs.Sizes.{places}
 use Rattle.image.proofs.stored.placed_row.Statement.{statement}
 use Rattle.image.proofs.stored.placed_row.Tie as tie
 
