@@ -6,8 +6,8 @@ use image::stored::IMAGE;
 use image::stored::read;
 use kernel::numbers::EVENT;
 use libc::STDOUT_FILENO;
+use queue::sizes::SLOTS;
 use task::task::AREA;
-use task::task::SLOTS;
 
 const SEED: u32 = 2026;
 

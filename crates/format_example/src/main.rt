@@ -9,8 +9,8 @@ use kernel::numbers::OWN_WRITE;
 use kernel::numbers::RECEIVE;
 use kernel::numbers::SEND;
 use libc::STDOUT_FILENO;
+use queue::sizes::SLOTS;
 use task::task::AREA;
-use task::task::SLOTS;
 
 const AREAS: usize = SLOTS * AREA;
 

@@ -3,8 +3,8 @@ use libc::STDIN_FILENO;
 use libc::STDOUT_FILENO;
 use lines::fresh_block;
 use lines::show_block;
+use queue::sizes::SLOTS;
 use task::task::AREA;
-use task::task::SLOTS;
 
 fn main() {
     let mut records = [0u8; 2048];

@@ -14,8 +14,8 @@ use lines::Block;
 use lines::LONGEST;
 use lines::fresh_block;
 use lines::show_block;
+use queue::sizes::SLOTS;
 use task::task::AREA;
-use task::task::SLOTS;
 
 // The first task's priority.
 const FIRST: u32 = 16;
