@@ -1,80 +1,43 @@
 -- Bytes are the image of a good table exactly where the table that they give is good and each record is exact.
 use Prim.Native.Nat.{ℕ, zero, suc, _+_, _*_, _≤_, _<_}
 use mathlib.Core.Path.{_≡_, refl, sym, ap, ap₂, _∙_}
-use mathlib.Core.Logic.{_⊎_, inl, inr, ⊎-elim}
-use mathlib.Core.Bool.{true, _&&_, false≢true}
+use mathlib.Core.Bool.{true, _&&_, and-comm, false≢true}
 use mathlib.Core.List.{List}
 use native.Mathlib.Nat.{suc-mul, mul-le-mul-right, le-refl}
 use native.Mathlib.Omega.{arith}
-use native.Mathlib.Decide.{ℕ-discrete, decLt}
-use lib.ListN.{length, getD, take, drop, set, replicate, length-take, length-drop, getD-replicate, length-replicate, List·getD-eq-default}
-use lib.Seq.{set-out, getD-set-same, getD-set-other, getD-drop, getD-take, take-all, take-add}
+use native.Mathlib.Decide.{decLt}
+use lib.ListN.{length, take, drop, length-take, length-drop, List·getD-eq-default}
+use lib.Seq.{getD-drop, getD-take, take-all, take-add}
 use borrow.Author.Tests.{eqb-true, eq-eqb, ltb-true}
-use Rattle.queue.specs.declared.Queue.{Queue}
+use Rattle.queue.specs.Choose.{choose}
 use Rattle.queue.specs.Sizes.{events, eventQueue, sendQueue, queuesFor}
 use Rattle.queue.specs.Tid.{tidOf, slotOf}
-use Rattle.queue.specs.Row.{placeAt, placeOf, emptyRow}
-use Rattle.queue.specs.Rows.{noRow, rowAt}
-use Rattle.queue.specs.Placed.{placedRow, placed}
+use Rattle.queue.specs.Row.{placeAt, placeOf}
 use Rattle.queue.proofs.Below.{by-test, same-test, all-below, below-all}
 use Rattle.queue.proofs.Facts.{slot-place}
-use Rattle.task.specs.Task.{noTask, stateCode, awaited, isUsed, isReady, isReceiveBlocked, isEventBlocked}
+use Rattle.task.specs.Task.{stateCode, awaited, isUsed, isReady, isReceiveBlocked, isEventBlocked}
 use Rattle.task.specs.Standing.{queueOf}
 use Rattle.task.proofs.Stands.{stands-nowhere}
 use Rattle.kernel.specs.declared.table.Table.{Table}
+use Rattle.kernel.specs.Numbers.{accepted, badTable}
 use Rattle.kernel.specs.Table.{taskAt, queueAt, slots, usedSlots}
+use Rattle.rules.specs.declared.Checked.{Checked}
 use Rattle.rules.specs.Good.{goodTable}
 use Rattle.rules.specs.Facts.{UsedFacts, standing, Good}
-use Rattle.rules.proofs.Fresh.{all-same}
 use Rattle.rules.proofs.Good.{good-facts}
+use Rattle.rules.proofs.Made.{placed-good}
 use Rattle.rules.proofs.Tasks.{state-facts}
+use Rattle.image.specs.declared.stored.Decoded.{Decoded}
 use Rattle.image.specs.Bytes.{inOrder, recordAt, same}
-use Rattle.image.specs.Record.{recordLength, storedPlace, taskRecord, recordOf, taskFrom, placeFrom}
-use Rattle.image.specs.Image.{imageOf, withStored, tableUpTo, tableOf, isImage}
-use Rattle.image.specs.Exact.{exactRecord, exactUpTo}
+use Rattle.image.specs.Record.{recordLength, storedPlace, taskRecord, recordOf, placeIn}
+use Rattle.image.specs.Image.{imageOf, tableOf, isImage, givenImage}
+use Rattle.image.specs.Exact.{exactRecord, exactUpTo, decodedOf, checkedPlaced}
 use Rattle.image.proofs.Bytes.{recordAt-inOrder, same-true, same-refl}
 use Rattle.image.proofs.Stands.{stored-in, stored-none}
 use Rattle.image.proofs.Record.{length-recordOf}
 use Rattle.image.proofs.Rebuilt.{Bytes, placeKept, keptPlace, exact-record}
 use Rattle.image.proofs.Shape.{table-shaped}
-
--- what is read after a store: what was there, or what was stored, at its index
-set-cases : {A : Type 0} (xs : List A) (i j : ℕ) (v d : A)
-    → (getD (set xs i v) j d ≡ getD xs j d) ⊎ ((j ≡ i) × (getD (set xs i v) j d ≡ v))
-set-cases xs i j v d = elim (ℕ-discrete j i) [
-  | no ne ↦ inl (getD-set-other xs i j v d ne)
-  | yes e ↦ elim (decLt i (length xs)) [
-    | yes l ↦ inr (e, rw e (getD-set-same xs i v d l))
-    | no g ↦ inl (ap (λ (l : List _). getD l j d) (set-out xs i v (omega arith)))
-  ]
-]
-
--- a tid stands in the rows only at its slot's place
-record Kept (place : ℕ → ℕ) (rows : List Queue) : Type 0 where
-  at : (k p s : ℕ) → placeAt (rowAt rows k) p ≡ tidOf s → place s ≡ p
-
-kept-none : (place : ℕ → ℕ) (m n : ℕ) → Kept place (replicate m (emptyRow n))
-kept-none place m n = record { at = λ k p s e. absurd (omega (arith, empty k p, e)) }
-  where
-    empty : (k p : ℕ) → placeAt (rowAt (replicate m (emptyRow n)) k) p ≡ 0
-    empty k p = elim (decLt k m) [
-      | yes l ↦ rw (getD-replicate m k (emptyRow n) noRow l) (all-same n p 0)
-      | no g ↦ rw (List·getD-eq-default (replicate m (emptyRow n)) noRow {n = k} (omega (arith, length-replicate m (emptyRow n))))
-    ]
-
-kept-more : {place : ℕ → ℕ} {rows : List Queue} → Kept place rows → (k s : ℕ) → Kept place (placed rows k (place s) (tidOf s))
-kept-more {place} {rows} f k s =
-    record {
-      at = λ j p r e. ⊎-elim
-          (λ same. f .at j p r (ap (λ (q : Queue). placeAt q p) (sym same) ∙ e))
-          (λ new.
-          let row = ap (λ (q : Queue). placeAt q p) (sym (new .1)) ∙ e in
-          ⊎-elim
-          (λ same. f .at k p r (sym same ∙ row))
-          (λ here. ap place (omega (arith, sym (here .1) ∙ row)) ∙ sym (here .0))
-          (set-cases (rowAt rows k .tids) (place s) p (tidOf s) 0))
-          (set-cases rows k j (placedRow (rowAt rows k) (place s) (tidOf s)) noRow);
-    }
+use Rattle.image.proofs.Placed.{task-read, table-made, place-found}
 
 part-small : (bytes : List ℕ) → Bytes bytes → (at k : ℕ) → Bytes (take k (drop at bytes))
 part-small bytes small at k i = elim (decLt i k) [
@@ -98,25 +61,6 @@ unfolding imageOf
 record-found t s l = recordAt-inOrder recordLength (recordOf t) (length-recordOf t) (slots t) s l
 
 module _ (n : ℕ) (bytes : List ℕ) where
-  place : ℕ → ℕ
-  place s = placeFrom (recordAt recordLength bytes s)
-
-  kept-queues : (m : ℕ) → Kept place (tableUpTo n bytes m .queues)
-  unfolding tableUpTo withStored place
-  kept-queues zero = kept-none place (queuesFor n) n
-  kept-queues (suc m) = kept-more (kept-queues m) _ m
-
-  pub task-read : (m s : ℕ) → m ≤ n → s < m → taskAt (tableUpTo n bytes m) s ≡ taskFrom (recordAt recordLength bytes s)
-  unfolding tableUpTo withStored
-  task-read zero s h l = absurd (omega arith)
-  task-read (suc m) s h l =
-      let x = taskFrom (recordAt recordLength bytes m) in
-      let tasks = tableUpTo n bytes m .tasks in
-      elim (ℕ-discrete s m) [
-        | yes e ↦ rw e (getD-set-same tasks m x noTask (omega (arith, table-shaped n bytes m .tasks)))
-        | no ne ↦ getD-set-other tasks m s x noTask ne ∙ task-read m s (omega arith) (omega arith)
-      ]
-
   module _ (g : Good n (tableOf n bytes)) (s : ℕ) (l : s < n) where
     used : isUsed (taskAt (tableOf n bytes) s .state) ≡ true → UsedFacts (usedSlots (tableOf n bytes)) s (taskAt (tableOf n bytes) s)
     used e = elim (decLt s (usedSlots (tableOf n bytes))) [
@@ -134,10 +78,10 @@ module _ (n : ℕ) (bytes : List ℕ) where
         let at = slot-place (lined .holds .row k inside) s l (eq-eqb _ k e) in
         (stored-in n (tableOf n bytes) s (g .rules .size) e h, at .0, at .1)
 
-    queue-place : (k : ℕ) → standing n (taskAt (tableOf n bytes) s) ≡ k → k < queuesFor n → storedPlace (tableOf n bytes) s ≡ place s
+    queue-place : (k : ℕ) → standing n (taskAt (tableOf n bytes) s) ≡ k → k < queuesFor n → storedPlace (tableOf n bytes) s ≡ placeIn bytes s
     queue-place k e h =
         let (at, _, here) = own k e h in
-        at ∙ sym (kept-queues n .at k _ s here)
+        at ∙ sym (place-found n bytes k _ s h here)
 
     -- a waiter stands alone, so its place is 0
     event-place : (e : ℕ) → standing n (taskAt (tableOf n bytes) s) ≡ eventQueue e → e < events → storedPlace (tableOf n bytes) s ≡ 0
@@ -146,11 +90,11 @@ module _ (n : ℕ) (bytes : List ℕ) where
         omega (arith, at, within, g .rules .single e h)
 
     place-read : storedPlace (tableOf n bytes) s ≡ keptPlace (recordAt recordLength bytes s)
-    unfolding place queueOf
+    unfolding queueOf
     place-read =
         let t = tableOf n bytes in
         let x = taskAt t s in
-        let kept = ap (placeKept (recordAt recordLength bytes s)) (task-read n s (omega arith) l) in
+        let kept = ap (placeKept (recordAt recordLength bytes s)) (task-read n bytes n s (omega arith) l) in
         let stands : storedPlace t s ≡ placeKept (recordAt recordLength bytes s) x =
         by-test (isReady (x .state))
         (λ r.
@@ -176,7 +120,7 @@ module _ (n : ℕ) (bytes : List ℕ) where
         let r = recordAt recordLength bytes s in
         let fits : s * recordLength + recordLength ≤ n * recordLength = rw suc-mul at (mul-le-mul-right recordLength l) in
         let size : length r ≡ recordLength = rw (length-take, length-drop) (omega arith) in
-        let again = ap₂ taskRecord (task-read n s (omega arith) l) place-read in
+        let again = ap₂ taskRecord (task-read n bytes n s (omega arith) l) place-read in
         exact-record r size (part-small bytes small (s * recordLength) recordLength) ∙ ap (λ (x : List ℕ). same x r) (sym again)
 
   -- the records one after another are the bytes
@@ -208,3 +152,22 @@ image-exact n bytes whole small =
     let all = in-order-same (recordOf t) (recordAt recordLength bytes) n (λ s l. same-true _ _ (sym (record-again n bytes g s l whole small) ∙ each s l)) in
     rw (image-is t n count, all, records-all n bytes n, take-all (n * recordLength) bytes (omega arith)) (same-refl bytes))))
     (λ bad. rw bad)
+
+-- what is given, by what is asked of the decoded table, whose rows were made from the records
+pub given-placed : (n : ℕ) (bytes : List ℕ) → length bytes ≡ n * recordLength → Bytes bytes → {d : Decoded} {k : Checked} {verdict : ℕ}
+    → d ≡ decodedOf n bytes
+    → k ≡ checkedPlaced (d .table) bytes
+    → verdict ≡ choose (d .exact && k .good) accepted badTable
+    → record { table = d .table; active = k .active; verdict = verdict } ≡ givenImage n bytes
+unfolding givenImage
+given-placed n bytes whole small decoded checked verdict =
+    let t = tableOf n bytes in
+    rw (
+      verdict,
+      checked,
+      decoded,
+      eq-eqb (length bytes) (n * recordLength) whole,
+      image-exact n bytes whole small,
+      placed-good n t (placeIn bytes) (table-made n bytes),
+    )
+    (rw (and-comm (goodTable t) (exactUpTo bytes n)))

@@ -1,28 +1,26 @@
 -- The rows of a table that was read are made from its tasks and their places.
-use Prim.Native.Nat.{ℕ, zero, suc, _+_, _*_, _<_}
+use Prim.Native.Nat.{ℕ, zero, suc, _+_, _*_, _≤_, _<_}
 use mathlib.Core.Path.{_≡_, refl, sym, ap, _∙_}
-use mathlib.Core.Bool.{_&&_, and-comm}
 use mathlib.Core.List.{List}
 use native.Mathlib.Omega.{arith}
-use lib.ListN.{length, getD}
-use lib.Seq.{getD-take, getD-drop}
-use borrow.Author.Tests.{eq-eqb}
-use Rattle.queue.specs.Choose.{choose}
+use native.Mathlib.Decide.{ℕ-discrete}
+use lib.ListN.{getD}
+use lib.Seq.{getD-take, getD-drop, getD-set-same, getD-set-other}
+use Rattle.queue.specs.declared.Queue.{Queue}
 use Rattle.queue.specs.Sizes.{queuesFor}
+use Rattle.queue.specs.Tid.{tidOf}
+use Rattle.queue.specs.Row.{placeAt}
+use Rattle.queue.specs.Rows.{rowAt}
 use Rattle.queue.specs.Placed.{madeRows}
+use Rattle.queue.proofs.Made.{made-place}
 use Rattle.task.specs.declared.task.Task.{Task}
-use Rattle.kernel.specs.Numbers.{accepted, badTable}
-use Rattle.rules.specs.declared.Checked.{Checked}
-use Rattle.rules.specs.Good.{goodTable}
+use Rattle.task.specs.Task.{noTask}
+use Rattle.kernel.specs.Table.{taskAt, queueAt}
 use Rattle.rules.specs.Facts.{standing}
-use Rattle.rules.proofs.Made.{Made, placed-good}
-use Rattle.image.specs.declared.stored.Decoded.{Decoded}
+use Rattle.rules.proofs.Made.{Made}
 use Rattle.image.specs.Bytes.{recordAt}
 use Rattle.image.specs.Record.{recordLength, atPlace, taskFrom, placeIn}
-use Rattle.image.specs.Image.{withStored, tableUpTo, tableOf, givenImage}
-use Rattle.image.specs.Exact.{exactUpTo, decodedOf, checkedPlaced}
-use Rattle.image.proofs.Rebuilt.{Bytes}
-use Rattle.image.proofs.Exact.{task-read, image-exact}
+use Rattle.image.specs.Image.{withStored, tableUpTo, tableOf}
 use Rattle.image.proofs.Shape.{table-shaped}
 
 -- slots with the same keys make the same rows
@@ -33,42 +31,37 @@ rows-same m w key key′ place zero e = refl
 rows-same m w key key′ place (suc k) e = rw (rows-same m w key key′ place k (λ s l. e s (omega arith)), e k (omega arith))
 
 module _ (n : ℕ) (bytes : List ℕ) where
-  task : ℕ → Task
+  abbrev task : ℕ → Task
   task s = taskFrom (recordAt recordLength bytes s)
 
+  pub task-read : (m s : ℕ) → m ≤ n → s < m → taskAt (tableUpTo n bytes m) s ≡ task s
+  unfolding tableUpTo withStored
+  task-read zero s h l = absurd (omega arith)
+  task-read (suc m) s h l =
+      let tasks = tableUpTo n bytes m .tasks in
+      elim (ℕ-discrete s m) [
+        | yes e ↦ rw e (getD-set-same tasks m (task m) noTask (omega (arith, table-shaped n bytes m .tasks)))
+        | no ne ↦ getD-set-other tasks m s (task m) noTask ne ∙ task-read m s (omega arith) (omega arith)
+      ]
+
   queues-made : (k : ℕ) → tableUpTo n bytes k .queues ≡ madeRows (queuesFor n) n (λ s. standing n (task s)) (placeIn bytes) k
-  unfolding tableUpTo withStored madeRows task
+  unfolding tableUpTo withStored madeRows
   queues-made zero = refl
   queues-made (suc k) = rw (queues-made k, table-shaped n bytes k .tasks)
 
-  table-made : Made n (tableOf n bytes) (placeIn bytes)
-  unfolding task
+  pub table-made : Made n (tableOf n bytes) (placeIn bytes)
   table-made =
       record {
         size = table-shaped n bytes n .tasks;
         queues = queues-made n
-            ∙ rows-same (queuesFor n) n _ _ _ n (λ s l. ap (standing n) (sym (task-read n bytes n s (omega arith) l)));
+            ∙ rows-same (queuesFor n) n _ _ _ n (λ s l. ap (standing n) (sym (task-read n s (omega arith) l)));
       }
+
+  -- a tid stands there only at its slot's place
+  pub place-found : (k p s : ℕ) → k < queuesFor n → placeAt (queueAt (tableOf n bytes) k) p ≡ tidOf s → placeIn bytes s ≡ p
+  place-found k p s h e =
+      made-place (queuesFor n) n n _ (placeIn bytes) k p s h (ap (λ (rows : List Queue). placeAt (rowAt rows k) p) (sym (queues-made n)) ∙ e)
 
 -- a slot's place is the fourth byte of its record
 pub place-byte : (bytes : List ℕ) (s : ℕ) → placeIn bytes s ≡ getD bytes (s * recordLength + atPlace) 0
 place-byte bytes s = let l : atPlace < recordLength = omega arith in rw (getD-take, getD-drop)
-
--- what is given, by what is asked of the decoded table, whose rows were made from the records
-pub given-placed : (n : ℕ) (bytes : List ℕ) → length bytes ≡ n * recordLength → Bytes bytes → {d : Decoded} {k : Checked} {verdict : ℕ}
-    → d ≡ decodedOf n bytes
-    → k ≡ checkedPlaced (d .table) bytes
-    → verdict ≡ choose (d .exact && k .good) accepted badTable
-    → record { table = d .table; active = k .active; verdict = verdict } ≡ givenImage n bytes
-unfolding givenImage
-given-placed n bytes whole small decoded checked verdict =
-    let t = tableOf n bytes in
-    rw (
-      verdict,
-      checked,
-      decoded,
-      eq-eqb (length bytes) (n * recordLength) whole,
-      image-exact n bytes whole small,
-      placed-good n t (placeIn bytes) (table-made n bytes),
-    )
-    (rw (and-comm (goodTable t) (exactUpTo bytes n)))

@@ -6,7 +6,7 @@ use borrow.Author.Tests.{ne-eqb}
 use Rattle.queue.specs.Sizes.{slotCount}
 use Rattle.image.specs.Record.{recordLength}
 use Rattle.image.specs.Image.{givenImage}
-use Rattle.image.proofs.Placed.{given-placed}
+use Rattle.image.proofs.Exact.{given-placed}
 use Rattle.image.proofs.stored.given.Statement.{statement}
 use Rattle.image.proofs.stored.given.Tie as tie
 
