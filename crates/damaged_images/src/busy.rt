@@ -8,8 +8,8 @@ use kernel::numbers::CREATE;
 use kernel::numbers::EXIT;
 use kernel::numbers::RECEIVE;
 use kernel::numbers::SEND;
-use task::task::AREA;
-use task::task::SLOTS;
+use tid::sizes::SLOTS;
+use tid::sizes::AREA;
 
 // The task that sends are queued at.
 const SERVER: u8 = 7;

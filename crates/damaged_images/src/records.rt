@@ -6,7 +6,7 @@ use crate::damage::good_values;
 use crate::damage::wrong;
 use image::stored::IMAGE;
 use libc::STDOUT_FILENO;
-use queue::slot;
+use tid::slot_named;
 use queue::wide;
 use std::num::wrapping_add_u64;
 
@@ -19,7 +19,7 @@ fn byte_at(image: [u8; IMAGE], at: usize) -> u8 {
 
 // Where a byte of the record of a tid stands.
 fn place_of(tid: u8, at: u8) -> usize {
-    slot(tid) * RECORD + wide(at)
+    slot_named(tid) * RECORD + wide(at)
 }
 
 // Whether the byte that a record cannot hold at a place is refused there.

@@ -6,8 +6,8 @@ use image::stored::IMAGE;
 use image::stored::read;
 use kernel::numbers::EVENT;
 use libc::STDOUT_FILENO;
-use task::task::AREA;
-use task::task::SLOTS;
+use tid::sizes::SLOTS;
+use tid::sizes::AREA;
 
 const SEED: u32 = 2026;
 

@@ -1,6 +1,6 @@
 // The byte entry: what a C host calls. It lends bytes, and finds in them what the kernel made of its request.
 ghost use mathlib.Core.Path.{_≡_};
-ghost use Rattle.queue.specs.Row.{places};
+ghost use Rattle.tid.specs.Sizes.{slotCount};
 ghost use Rattle.entry.specs.Entry.{call, called, startCall, startCalled, AnsweredBy};
 use image::call::ANSWER;
 use image::call::REQUEST;
@@ -16,10 +16,10 @@ use kernel::numbers::BAD_IMAGE;
 use kernel::numbers::BAD_RECORD;
 use kernel::numbers::BAD_TABLE;
 use kernel::table::Answer;
+use tid::sizes::SLOTS;
 use step::areas::apply;
-use task::task::AREA;
+use tid::sizes::AREA;
 use task::task::Outcome;
-use task::task::SLOTS;
 
 // A refusal is answered with no next task and no result; its number is also returned.
 fn refuse(verdict: u8, answer: &mut [u8]) -> u32
@@ -44,7 +44,7 @@ pub extern "C" fn kernel_step(
     request: &[u8],
     answer: &mut [u8],
 ) -> u32
-    ensures { λ r. ⌜ call r (now (image .exit)) (now (areas .exit)) (now (answer .exit)) ≡ called places (now (image .entry)) (now (areas .entry)) (now (request .entry)) (now (answer .entry)) ⌝ }
+    ensures { λ r. ⌜ call r (now (image .exit)) (now (areas .exit)) (now (answer .exit)) ≡ called slotCount (now (image .entry)) (now (areas .entry)) (now (request .entry)) (now (answer .entry)) ⌝ }
 {
     if answer.len() != ANSWER {
         return BAD_ANSWER as u32;
@@ -80,7 +80,7 @@ pub extern "C" fn kernel_step(
 // A fresh kernel's image, whose first task has the priority given.
 #[no_mangle]
 pub extern "C" fn kernel_start(priority: u32, image: &mut [u8]) -> u32
-    ensures { λ r. ⌜ startCall r (now (image .exit)) ≡ startCalled places priority (now (image .entry)) ⌝ }
+    ensures { λ r. ⌜ startCall r (now (image .exit)) ≡ startCalled slotCount priority (now (image .entry)) ⌝ }
 {
     if image.len() != IMAGE {
         return BAD_IMAGE as u32;

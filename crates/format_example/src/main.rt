@@ -9,8 +9,8 @@ use kernel::numbers::OWN_WRITE;
 use kernel::numbers::RECEIVE;
 use kernel::numbers::SEND;
 use libc::STDOUT_FILENO;
-use task::task::AREA;
-use task::task::SLOTS;
+use tid::sizes::SLOTS;
+use tid::sizes::AREA;
 
 const AREAS: usize = SLOTS * AREA;
 

@@ -2,7 +2,7 @@
 -- to be written are part of the outcome: of the parameters at exit, s .0, s .1 .0 and so on, the last.
 use mathlib.Core.Path.{refl, _∙⁻¹_}
 use denote.Ref.{now}
-use Rattle.queue.specs.Determined.{Determines, DeterminesResult}
+use Rattle.tid.specs.Determined.{Determines, DeterminesResult}
 use Rattle.image.proofs.stored.given.Reads as given
 use Rattle.image.proofs.stored.read.Reads as read
 use Rattle.image.proofs.stored.write.Reads as write

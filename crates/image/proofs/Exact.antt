@@ -1,76 +1,44 @@
 -- Bytes are the image of a good table exactly where the table that they give is good and each record is exact.
-use Prim.Native.Nat.{ℕ, zero, suc, _+_, _-_, _*_, _≤_, _<_}
+use Prim.Native.Nat.{ℕ, zero, suc, _+_, _*_, _≤_, _<_}
 use mathlib.Core.Path.{_≡_, refl, sym, ap, ap₂, _∙_}
-use mathlib.Core.Logic.{_⊎_, inl, inr, ⊎-elim}
-use mathlib.Core.Bool.{true, _&&_, false≢true}
+use mathlib.Core.Bool.{true, _&&_, and-comm, false≢true}
 use mathlib.Core.List.{List}
-use native.Mathlib.Nat.{suc-mul, mul-le-mul-right}
+use native.Mathlib.Nat.{suc-mul, mul-le-mul-right, le-refl}
 use native.Mathlib.Omega.{arith}
-use native.Mathlib.Decide.{ℕ-discrete, decLt}
-use lib.ListN.{length, getD, take, drop, set, replicate, length-take, length-drop, getD-replicate, length-replicate, List·getD-eq-default}
-use lib.Seq.{set-out, getD-set-same, getD-set-other, getD-drop, getD-take, take-all, take-add}
-use borrow.Author.Tests.{eqb-true, eq-eqb}
-use Rattle.queue.specs.declared.Queue.{Queue}
-use Rattle.queue.specs.Row.{placeAt, placeOf, emptyRow}
-use Rattle.queue.specs.Rows.{noRow, rowAt}
-use Rattle.queue.specs.Placed.{placedRow, placed}
-use Rattle.queue.specs.Facts.{RowsFacts}
+use native.Mathlib.Decide.{decLt}
+use lib.ListN.{length, take, drop, length-take, length-drop, List·getD-eq-default}
+use lib.Seq.{getD-drop, getD-take, take-all, take-add}
+use borrow.Author.Tests.{eqb-true, eq-eqb, ltb-true}
+use Rattle.queue.specs.Choose.{choose}
+use Rattle.tid.specs.Sizes.{events}
+use Rattle.queue.specs.Numbering.{eventQueue, sendQueue, queuesFor}
+use Rattle.tid.specs.Tid.{markOf, slotNamed}
+use Rattle.queue.specs.Row.{placeAt, placeOf}
 use Rattle.queue.proofs.Below.{by-test, same-test, all-below, below-all}
 use Rattle.queue.proofs.Facts.{slot-place}
-use Rattle.task.specs.Task.{priorities, noTask, stateCode, awaited, isUsed, isReady, isReceiveBlocked}
+use Rattle.task.specs.Task.{stateCode, awaited, isUsed, isReady, isReceiveBlocked, isEventBlocked}
+use Rattle.task.specs.Standing.{queueOf}
+use Rattle.task.proofs.Stands.{stands-nowhere}
 use Rattle.kernel.specs.declared.table.Table.{Table}
-use Rattle.kernel.specs.Table.{taskAt, slots, usedSlots}
+use Rattle.kernel.specs.Numbers.{accepted, badTable}
+use Rattle.kernel.specs.Table.{taskAt, queueAt, slots, usedSlots}
+use Rattle.rules.specs.declared.Checked.{Checked}
 use Rattle.rules.specs.Good.{goodTable}
-use Rattle.rules.specs.Facts.{UsedFacts, Good}
-use Rattle.rules.proofs.Fresh.{all-same}
+use Rattle.rules.specs.Facts.{UsedFacts, standing, Good}
+use Rattle.rules.proofs.States.{state-facts}
 use Rattle.rules.proofs.Good.{good-facts}
-use Rattle.rules.proofs.Tasks.{state-facts}
+use Rattle.rules.proofs.Made.{placed-good}
+use Rattle.image.specs.declared.stored.Decoded.{Decoded}
 use Rattle.image.specs.Bytes.{inOrder, recordAt, same}
-use Rattle.image.specs.Record.{recordLength, standsAt, taskRecord, recordOf, taskFrom, placeFrom}
-use Rattle.image.specs.Image.{imageOf, withStored, tableUpTo, tableOf, isImage}
-use Rattle.image.specs.Exact.{exactRecord, exactUpTo}
+use Rattle.image.specs.Record.{recordLength, storedPlace, taskRecord, recordOf, placeIn}
+use Rattle.image.specs.Image.{imageOf, tableOf, isImage, givenImage}
+use Rattle.image.specs.Exact.{exactRecord, exactUpTo, decodedOf, checkedPlaced}
 use Rattle.image.proofs.Bytes.{recordAt-inOrder, same-true, same-refl}
+use Rattle.image.proofs.Stands.{stored-in, stored-none}
 use Rattle.image.proofs.Record.{length-recordOf}
 use Rattle.image.proofs.Rebuilt.{Bytes, placeKept, keptPlace, exact-record}
 use Rattle.image.proofs.Shape.{table-shaped}
-
--- what is read after a store: what was there, or what was stored, at its index
-set-cases : {A : Type 0} (xs : List A) (i j : ℕ) (v d : A)
-    → (getD (set xs i v) j d ≡ getD xs j d) ⊎ ((j ≡ i) × (getD (set xs i v) j d ≡ v))
-set-cases xs i j v d = elim (ℕ-discrete j i) [
-  | no ne ↦ inl (getD-set-other xs i j v d ne)
-  | yes e ↦ elim (decLt i (length xs)) [
-    | yes l ↦ inr (e, rw e (getD-set-same xs i v d l))
-    | no g ↦ inl (ap (λ (l : List _). getD l j d) (set-out xs i v (omega arith)))
-  ]
-]
-
--- a tid stands in the rows only at its slot's place
-record Kept (place : ℕ → ℕ) (rows : List Queue) : Type 0 where
-  at : (k p s : ℕ) → placeAt (rowAt rows k) p ≡ s + 1 → place s ≡ p
-
-kept-none : (place : ℕ → ℕ) (m n : ℕ) → Kept place (replicate m (emptyRow n))
-kept-none place m n = record { at = λ k p s e. absurd (omega (arith, empty k p, e)) }
-  where
-    empty : (k p : ℕ) → placeAt (rowAt (replicate m (emptyRow n)) k) p ≡ 0
-    empty k p = elim (decLt k m) [
-      | yes l ↦ rw (getD-replicate m k (emptyRow n) noRow l) (all-same n p 0)
-      | no g ↦ rw (List·getD-eq-default (replicate m (emptyRow n)) noRow {n = k} (omega (arith, length-replicate m (emptyRow n))))
-    ]
-
-kept-more : {place : ℕ → ℕ} {rows : List Queue} → Kept place rows → (k s : ℕ) → Kept place (placed rows k (place s) (s + 1))
-kept-more {place} {rows} f k s =
-    record {
-      at = λ j p r e. ⊎-elim
-          (λ same. f .at j p r (ap (λ (q : Queue). placeAt q p) (sym same) ∙ e))
-          (λ new.
-          let row = ap (λ (q : Queue). placeAt q p) (sym (new .1)) ∙ e in
-          ⊎-elim
-          (λ same. f .at k p r (sym same ∙ row))
-          (λ here. ap place (omega (arith, sym (here .1) ∙ row)) ∙ sym (here .0))
-          (set-cases (rowAt rows k .tids) (place s) p (s + 1) 0))
-          (set-cases rows k j (placedRow (rowAt rows k) (place s) (s + 1)) noRow);
-    }
+use Rattle.image.proofs.Placed.{task-read, table-made, place-found}
 
 part-small : (bytes : List ℕ) → Bytes bytes → (at k : ℕ) → Bytes (take k (drop at bytes))
 part-small bytes small at k i = elim (decLt i k) [
@@ -94,36 +62,6 @@ unfolding imageOf
 record-found t s l = recordAt-inOrder recordLength (recordOf t) (length-recordOf t) (slots t) s l
 
 module _ (n : ℕ) (bytes : List ℕ) where
-  place : ℕ → ℕ
-  place s = placeFrom (recordAt recordLength bytes s)
-
-  kept-ready : (m : ℕ) → Kept place (tableUpTo n bytes m .ready)
-  unfolding tableUpTo withStored place
-  kept-ready zero = kept-none place priorities n
-  kept-ready (suc m) = kept-more (kept-ready m) _ m
-
-  kept-senders : (m : ℕ) → Kept place (tableUpTo n bytes m .senders)
-  unfolding tableUpTo withStored place
-  kept-senders zero = kept-none place n n
-  kept-senders (suc m) = kept-more (kept-senders m) _ m
-
-  pub task-read : (m s : ℕ) → m ≤ n → s < m → taskAt (tableUpTo n bytes m) s ≡ taskFrom (recordAt recordLength bytes s)
-  unfolding tableUpTo withStored
-  task-read zero s h l = absurd (omega arith)
-  task-read (suc m) s h l =
-      let x = taskFrom (recordAt recordLength bytes m) in
-      let tasks = tableUpTo n bytes m .tasks in
-      elim (ℕ-discrete s m) [
-        | yes e ↦ rw e (getD-set-same tasks m x noTask (omega (arith, table-shaped n bytes m .tasks)))
-        | no ne ↦ getD-set-other tasks m s x noTask ne ∙ task-read m s (omega arith) (omega arith)
-      ]
-
-  -- the place that a key's row gives is the one that was read
-  row-place : (rows : List Queue) (key : ℕ → ℕ) → RowsFacts n rows key → Kept place rows → (s k : ℕ) → s < n → key s ≡ k → k < length rows
-      → placeOf (rowAt rows k) (s + 1) ≡ place s
-  row-place rows key f kept s k l e h =
-      sym (kept .at k _ s (slot-place (f .row k h) s l (eq-eqb (key s) k e) .1))
-
   module _ (g : Good n (tableOf n bytes)) (s : ℕ) (l : s < n) where
     used : isUsed (taskAt (tableOf n bytes) s .state) ≡ true → UsedFacts (usedSlots (tableOf n bytes)) s (taskAt (tableOf n bytes) s)
     used e = elim (decLt s (usedSlots (tableOf n bytes))) [
@@ -131,29 +69,49 @@ module _ (n : ℕ) (bytes : List ℕ) where
       | no h ↦ absurd (false≢true (rw (g .rules .tasks .unused s (omega arith)) at e))
     ]
 
-    place-read : standsAt (tableOf n bytes) s ≡ keptPlace (recordAt recordLength bytes s)
-    unfolding place
+    -- the slot's own place in its queue, by the rules
+    own : (k : ℕ) → standing n (taskAt (tableOf n bytes) s) ≡ k → k < queuesFor n
+        → let q = queueAt (tableOf n bytes) k in
+        (storedPlace (tableOf n bytes) s ≡ placeOf q (markOf s)) × (placeOf q (markOf s) < q .len) × (placeAt q (placeOf q (markOf s)) ≡ markOf s)
+    own k e h =
+        let lined = g .rules .lined in
+        let inside : k < length (tableOf n bytes .queues) = omega (arith, lined .shaped .count) in
+        let at = slot-place (lined .holds .row k inside) s l (eq-eqb _ k e) in
+        (stored-in n (tableOf n bytes) s (g .rules .size) e h, at .0, at .1)
+
+    queue-place : (k : ℕ) → standing n (taskAt (tableOf n bytes) s) ≡ k → k < queuesFor n → storedPlace (tableOf n bytes) s ≡ placeIn bytes s
+    queue-place k e h =
+        let (at, _, here) = own k e h in
+        at ∙ sym (place-found n bytes k _ s h here)
+
+    -- a waiter stands alone, so its place is 0
+    event-place : (e : ℕ) → standing n (taskAt (tableOf n bytes) s) ≡ eventQueue e → e < events → storedPlace (tableOf n bytes) s ≡ 0
+    event-place e k h =
+        let (at, within, _) = own (eventQueue e) k (omega arith) in
+        omega (arith, at, within, g .rules .single e h)
+
+    place-read : storedPlace (tableOf n bytes) s ≡ keptPlace (recordAt recordLength bytes s)
+    unfolding queueOf
     place-read =
         let t = tableOf n bytes in
         let x = taskAt t s in
-        let rules = g .rules in
-        let kept = ap (placeKept (recordAt recordLength bytes s)) (task-read n s (omega arith) l) in
-        let stands : standsAt t s ≡ placeKept (recordAt recordLength bytes s) x =
+        let kept = ap (placeKept (recordAt recordLength bytes s)) (task-read n bytes n s (omega arith) l) in
+        let stands : storedPlace t s ≡ placeKept (recordAt recordLength bytes s) x =
         by-test (isReady (x .state))
-        (λ e.
-        let two = eqb-true (stateCode (x .state)) 2 e in
-        let facts = used (rw two) in
-        rw two
-        (row-place (t .ready) _ (rules .ready .holds) (kept-ready n) s (x .priority) l (rw two)
-        (omega (arith, facts .priority, rules .ready .shaped .count))))
-        (λ e. by-test (isReceiveBlocked (x .state))
-        (λ b.
-        let four = eqb-true (stateCode (x .state)) 4 b in
-        let target = state-facts _ s (x .state) (used (rw four) .state) .target b in
-        rw four
-        (row-place (t .senders) _ (rules .senders .holds) (kept-senders n) s (awaited (x .state) - 1) l (rw four)
-        (omega (arith, target, rules .tasks .fits, rules .senders .shaped .count))))
-        (λ b. rw (e, b))) in
+        (λ r.
+        let two = eqb-true (stateCode (x .state)) 2 r in
+        rw two (queue-place (x .priority) (rw two) (omega (arith, used (rw two) .priority))))
+        (λ r. by-test (isReceiveBlocked (x .state))
+        (λ q.
+        let four = eqb-true (stateCode (x .state)) 4 q in
+        let target = state-facts _ s (x .state) (used (rw four) .state) .target q in
+        rw four (queue-place (sendQueue (slotNamed (awaited (x .state)))) (rw four) (omega (arith, target, g .rules .tasks .fits))))
+        (λ q. by-test (isEventBlocked (x .state))
+        (λ v.
+        let six = eqb-true (stateCode (x .state)) 6 v in
+        let event = state-facts _ s (x .state) (used (rw six) .state) .event v in
+        rw (r, q) (event-place (awaited (x .state)) (rw six) (ltb-true (awaited (x .state)) events event)))
+        (λ v. rw (r, q) (stored-none n t s (g .rules .size) (stands-nowhere (queuesFor n) x r q v) (le-refl (queuesFor n)))))) in
         stands ∙ kept
 
     -- so a slot is written as the record that it was read from, exactly where that is exact
@@ -163,7 +121,7 @@ module _ (n : ℕ) (bytes : List ℕ) where
         let r = recordAt recordLength bytes s in
         let fits : s * recordLength + recordLength ≤ n * recordLength = rw suc-mul at (mul-le-mul-right recordLength l) in
         let size : length r ≡ recordLength = rw (length-take, length-drop) (omega arith) in
-        let again = ap₂ taskRecord (task-read n s (omega arith) l) place-read in
+        let again = ap₂ taskRecord (task-read n bytes n s (omega arith) l) place-read in
         exact-record r size (part-small bytes small (s * recordLength) recordLength) ∙ ap (λ (x : List ℕ). same x r) (sym again)
 
   -- the records one after another are the bytes
@@ -195,3 +153,22 @@ image-exact n bytes whole small =
     let all = in-order-same (recordOf t) (recordAt recordLength bytes) n (λ s l. same-true _ _ (sym (record-again n bytes g s l whole small) ∙ each s l)) in
     rw (image-is t n count, all, records-all n bytes n, take-all (n * recordLength) bytes (omega arith)) (same-refl bytes))))
     (λ bad. rw bad)
+
+-- what is given, by what is asked of the decoded table, whose rows were made from the records
+pub given-placed : (n : ℕ) (bytes : List ℕ) → length bytes ≡ n * recordLength → Bytes bytes → {d : Decoded} {k : Checked} {verdict : ℕ}
+    → d ≡ decodedOf n bytes
+    → k ≡ checkedPlaced (d .table) bytes
+    → verdict ≡ choose (d .exact && k .good) accepted badTable
+    → record { table = d .table; active = k .active; verdict = verdict } ≡ givenImage n bytes
+unfolding givenImage
+given-placed n bytes whole small decoded checked verdict =
+    let t = tableOf n bytes in
+    rw (
+      verdict,
+      checked,
+      decoded,
+      eq-eqb (length bytes) (n * recordLength) whole,
+      image-exact n bytes whole small,
+      placed-good n t (placeIn bytes) (table-made n bytes),
+    )
+    (rw (and-comm (goodTable t) (exactUpTo bytes n)))

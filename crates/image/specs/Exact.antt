@@ -1,11 +1,15 @@
 -- Whether a record is what its task is written as, told from the record alone. `proofs/Exact` shows that a good table whose
 -- records are all exact is written as the bytes that it was read from, so that nothing is written again to compare.
-use Prim.Native.Nat.{ℕ, _*_}
+use Prim.Native.Nat.{ℕ}
 use mathlib.Core.Bool.{Bool, _&&_, _||_}
 use mathlib.Core.List.{List}
-use lib.ListN.{length, getD}
+use lib.ListN.{getD}
 use lib.Dec.{eqb}
 use Rattle.queue.specs.Choose.{choose, allBelow}
+use Rattle.kernel.specs.declared.table.Table.{Table}
+use Rattle.kernel.specs.Table.{activeSlot}
+use Rattle.rules.specs.declared.Checked.{Checked}
+use Rattle.rules.specs.Check.{goodPlaced}
 use Rattle.image.specs.declared.fields.Parts.{Parts}
 use Rattle.image.specs.declared.fields.Told.{Told}
 use Rattle.image.specs.declared.fields.Stated.{Stated}
@@ -13,8 +17,8 @@ use Rattle.image.specs.declared.fields.Entry.{Entry}
 use Rattle.image.specs.declared.stored.Decoded.{Decoded}
 use Rattle.image.specs.Bytes.{recordAt}
 use Rattle.image.specs.Told.{toldOf}
-use Rattle.image.specs.Record.{recordLength, atState, atPlace, atSpare, byteIn, partsOf, partsIn, toldIn, stateFrom, outcomeFrom, taskFrom}
-use Rattle.image.specs.Image.{tableUpTo}
+use Rattle.image.specs.Record.{recordLength, atState, atPlace, atSpare, byteIn, partsOf, partsIn, toldIn, stateFrom, outcomeFrom, taskFrom, placeIn}
+use Rattle.image.specs.Image.{tableOf}
 
 abbrev pub sameParts : Parts → Parts → Bool
 sameParts p q =
@@ -28,7 +32,7 @@ sameParts p q =
 abbrev pub sameTold : Told → Told → Bool
 sameTold p q = eqb (p .kind) (q .kind) && eqb (p .from) (q .from) && eqb (p .word) (q .word)
 
--- a place stands only where the task stands in a queue: the code is that of a ready or a receive blocked task
+-- a place stands only with a ready or a receive-blocked task: the waiter of an event stands alone, at 0, and any other in no queue
 abbrev pub exactPlace : ℕ → ℕ → Bool
 exactPlace code place = eqb code 2 || eqb code 4 || eqb place 0
 
@@ -62,10 +66,10 @@ entryOf r = record { task = taskFrom r; exact = exactRecord r }
 abbrev pub exactUpTo : List ℕ → ℕ → Bool
 exactUpTo bytes k = allBelow k (λ s. exactRecord (recordAt recordLength bytes s))
 
--- how many records are read: all of n slots, or none where the length is another
-abbrev pub recordsIn : ℕ → List ℕ → ℕ
-recordsIn n bytes = choose (eqb (length bytes) (n * recordLength)) n 0
-
--- the table that the records give, and whether each of them is exact
+-- the table of n slots that the records give, and whether each of them is exact
 abbrev pub decodedOf : ℕ → List ℕ → Decoded
-decodedOf n bytes = record { table = tableUpTo n bytes (recordsIn n bytes); exact = exactUpTo bytes (recordsIn n bytes) }
+decodedOf n bytes = record { table = tableOf n bytes; exact = exactUpTo bytes n }
+
+-- what is asked of the table that was read: whether each task stands at the place that its record gives, and which slot is active
+abbrev pub checkedPlaced : Table → List ℕ → Checked
+checkedPlaced t bytes = record { good = goodPlaced t (placeIn bytes); active = activeSlot t }

@@ -9,6 +9,7 @@ use task::parts::RECEIVE_BLOCKED;
 use task::parts::REPLY_BLOCKED;
 use task::parts::SEND_BLOCKED;
 use task::parts::UNUSED;
+use task::parts::state_code;
 use task::task::Buffer;
 use task::task::Outcome;
 use task::task::State;
@@ -21,13 +22,13 @@ ghost use lib.Dec.{eqb};
 ghost use Rattle.queue.specs.Choose.{allBelow};
 ghost use Rattle.task.specs.Task.{noTask};
 ghost use Rattle.image.specs.Told.{toldOf};
-ghost use Rattle.image.specs.Record.{recordLength, plainParts, partsOf, fields, bufferIn, partsIn, toldIn, outcomeFrom};
+ghost use Rattle.image.specs.Record.{recordLength, plainParts, partsOf, fields, taskRecord, bufferIn, partsIn, toldIn, outcomeFrom};
 ghost use Rattle.image.specs.Exact.{sameTold, statedFrom, entryOf};
 
 // A record's length, and where its fields start. The spare byte is 0.
 pub(crate) const RECORD: usize = 20;
 
-pub(crate) const STATE: usize = 0;
+const STATE: usize = 0;
 
 const PRIORITY: usize = 1;
 
@@ -282,7 +283,7 @@ fn blank(r: &[u8]) -> bool
     blank
 }
 
-pub(crate) fn no_task() -> Task
+fn no_task() -> Task
     ensures { λ x. ⌜ x ≡ noTask ⌝ }
 {
     Task {
@@ -325,7 +326,7 @@ pub(crate) fn entry_of(r: &[u8]) -> Entry
 }
 
 // The fields of a task and its place, in their order.
-pub(crate) fn fields_of(x: Task, place: u8) -> [u8; RECORD]
+fn fields_of(x: Task, place: u8) -> [u8; RECORD]
     ensures { λ r. ⌜ r ≡ fields x place ⌝ }
 {
     let state = x.state;
@@ -357,4 +358,15 @@ pub(crate) fn fields_of(x: Task, place: u8) -> [u8; RECORD]
         (w / 256 / 256 % 256) as u8,
         (w / 256 / 256 / 256 % 256) as u8,
     ]
+}
+
+// The record of a task and its place; that of an unused slot is all zero.
+pub(crate) fn record_of(x: Task, place: u8) -> [u8; RECORD]
+    ensures { λ r. ⌜ r ≡ taskRecord x place ⌝ }
+{
+    let state = x.state;
+    if state_code(state) == UNUSED {
+        return [0; RECORD];
+    }
+    fields_of(x, place)
 }

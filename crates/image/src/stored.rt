@@ -1,43 +1,37 @@
 // A table as an image: a record for each slot, one after another.
 use crate::fields::PLACE;
 use crate::fields::RECORD;
-use crate::fields::STATE;
 use crate::fields::entry_of;
-use crate::fields::fields_of;
-use crate::fields::no_task;
+use crate::fields::record_of;
 use kernel::numbers::ACCEPTED;
 use kernel::numbers::BAD_IMAGE;
 use kernel::numbers::BAD_TABLE;
 use kernel::table::Table;
 use queue::Queue;
+use queue::numbering::FIRST_SEND;
+use queue::numbering::PLACES;
+use queue::numbering::QUEUES;
+use tid::sizes::SLOTS;
 use queue::wide;
-use rules::keys::event_key;
-use rules::keys::ready_key;
-use rules::keys::senders_key;
-use rules::slots::good_used;
-use rules::slots::together;
-use task::parts::UNUSED;
-use task::parts::state_code;
+use rules::Checked;
+use rules::slots::good_slot;
+use rules::slots::idle;
+use rules::slots::single;
 use task::search::first_active;
 use task::search::used_slots;
-use task::task::EVENTS;
-use task::task::PRIORITIES;
-use task::task::SLOTS;
+use task::standing::queue_of;
+use tid::mark_of;
 ghost use mathlib.Core.Path.{_≡_};
-ghost use mathlib.Core.Bool.{not};
 ghost use Prim.Native.Nat.{_+_, _*_, _≤_, _<_, min, max};
-ghost use lib.Dec.{eqb};
 ghost use lib.ListN.{length};
 ghost use lib.Seq.{paste};
-ghost use Rattle.queue.specs.Choose.{choose};
-ghost use Rattle.queue.specs.Row.{places};
+ghost use Rattle.tid.specs.Sizes.{slotCount};
+ghost use Rattle.queue.specs.Numbering.{places};
 ghost use Rattle.queue.specs.Placed.{placedRow};
-ghost use Rattle.kernel.specs.Numbers.{accepted, badTable, badImage};
 ghost use Rattle.rules.specs.Fresh.{unusedTable};
-ghost use Rattle.image.specs.Bytes.{recordAt};
-ghost use Rattle.image.specs.Record.{recordLength, placeFrom};
+ghost use Rattle.image.specs.Record.{recordLength};
 ghost use Rattle.image.specs.Image.{reading, givenImage, readImage, stored, writeVerdict, written};
-ghost use Rattle.image.specs.Exact.{decodedOf};
+ghost use Rattle.image.specs.Exact.{decodedOf, checkedPlaced};
 
 // How long an image is.
 pub const IMAGE: usize = SLOTS * RECORD;
@@ -54,21 +48,23 @@ pub struct Reading {
 fn reach(len: u8, place: u8) -> u8
     ensures { λ r. ⌜ r ≡ max len (min (place + 1) places) ⌝ }
 {
-    let p = place as usize;
-    if p < SLOTS {
-        if len <= place { place + 1 } else { len }
-    } else {
-        if wide(len) < SLOTS { SLOTS as u8 } else { len }
+    if PLACES <= wide(place) {
+        return if wide(len) < PLACES {
+            PLACES as u8
+        } else {
+            len
+        };
     }
+    if len <= place { place + 1 } else { len }
 }
 
-// A tid put at a place, which the row then reaches.
-fn placed_row(mut q: Queue, place: u8, tid: u8) -> Queue
-    ensures { λ r. ⌜ r ≡ placedRow q place tid ⌝ }
+// A mark put at a place, which the row then reaches.
+fn placed_row(mut q: Queue, place: u8, mark: u8) -> Queue
+    ensures { λ r. ⌜ r ≡ placedRow q place mark ⌝ }
 {
     let p = place as usize;
-    if p < SLOTS {
-        q.tids[p] = tid;
+    if p < PLACES {
+        q.marks[p] = mark;
     }
     q.len = reach(q.len, place);
     q
@@ -80,55 +76,27 @@ struct Decoded {
     exact: bool,
 }
 
-// One pass over the records, into one table in place. Bytes of another length have none.
 fn decode(bytes: &[u8]) -> Decoded
-    ensures { λ r. ⌜ r ≡ decodedOf places (now (bytes .entry)) ⌝ }
+    requires { ⌜ length (now bytes) ≡ slotCount * recordLength ⌝ }
+    ensures { λ r. ⌜ r ≡ decodedOf slotCount (now (bytes .entry)) ⌝ }
 {
-    let count = if bytes.len() == IMAGE { SLOTS } else { 0 };
-    let none = [Queue::empty(); SLOTS];
-    let mut table = Table {
-        tasks: [no_task(); SLOTS],
-        ready: none,
-        senders: none,
-        waiters: [0; EVENTS],
-    };
+    let mut table = rules::unused_table();
     let mut exact = true;
-    for s in 0..count {
+    let mut s = 0;
+    while s < SLOTS {
         let at = s * RECORD;
         let r = &bytes[at..at + RECORD];
         let entry = entry_of(r);
+        let task = entry.task;
         exact &= entry.exact;
-        // Nothing of an unused slot is stored: its task is there already, and it stands in no row.
-        if r[STATE] == UNUSED {
-            continue;
+        table.tasks[s] = task;
+        let k = queue_of(task);
+        if k < QUEUES {
+            table.queues[k] = placed_row(table.queues[k], r[PLACE], mark_of(s));
         }
-        let x = entry.task;
-        let tid = (s + 1) as u8;
-        let place = r[PLACE];
-        table.tasks[s] = x;
-        let k = ready_key(x);
-        if k < PRIORITIES {
-            table.ready[k] = placed_row(table.ready[k], place, tid);
-        }
-        let g = senders_key(x);
-        if g < SLOTS {
-            table.senders[g] = placed_row(table.senders[g], place, tid);
-        }
-        let e = event_key(x);
-        if e < EVENTS {
-            table.waiters[e] = tid;
-        }
+        s += 1;
     }
     Decoded { table, exact }
-}
-
-// The place of a slot, as its record has it; 0 where the bytes have no such record.
-fn place_in(bytes: &[u8], s: usize) -> u8
-    requires { ⌜ s < places ⌝ }
-    ensures { λ r. ⌜ r ≡ placeFrom (recordAt recordLength (now (bytes .entry)) s) ⌝ }
-{
-    let p = s * RECORD + PLACE;
-    if p < bytes.len() { bytes[p] } else { 0 }
 }
 
 // A record copied into an image.
@@ -147,32 +115,20 @@ fn put_record(out: &mut [u8], at: usize, r: [u8; RECORD])
 pub fn store(table: Table, out: &mut [u8])
     ensures { λ r. ⌜ now (out .exit) ≡ stored table (now (out .entry)) ⌝ }
 {
-    if out.len() == IMAGE {
-        let mut s = 0;
-        while s < SLOTS {
-            let x = table.tasks[s];
-            let state = x.state;
-            let at = s * RECORD;
-            if state_code(state) == UNUSED {
-                put_record(&mut *out, at, [0; RECORD]);
-                s += 1;
-                continue;
-            }
-            let tid = (s + 1) as u8;
-            let mut place = 0;
-            let k = ready_key(x);
-            if k < PRIORITIES {
-                let q = table.ready[k];
-                place = q.place_of(tid);
-            }
-            let g = senders_key(x);
-            if g < SLOTS {
-                let q = table.senders[g];
-                place = q.place_of(tid);
-            }
-            put_record(&mut *out, at, fields_of(x, place as u8));
-            s += 1;
+    if out.len() != IMAGE {
+        return;
+    }
+    let mut s = 0;
+    while s < SLOTS {
+        let task = table.tasks[s];
+        let k = queue_of(task);
+        let mut place = 0;
+        if k < QUEUES {
+            let q = table.queues[k];
+            place = q.place_of(mark_of(s));
         }
+        put_record(&mut *out, s * RECORD, record_of(task, place as u8));
+        s += 1;
     }
 }
 
@@ -194,7 +150,7 @@ pub fn write(table: Table, out: &mut [u8]) -> u8
 }
 
 fn refused(verdict: u8) -> Reading
-    ensures { λ r. ⌜ r ≡ reading (unusedTable places) verdict ⌝ }
+    ensures { λ r. ⌜ r ≡ reading (unusedTable slotCount) verdict ⌝ }
 {
     Reading {
         table: rules::unused_table(),
@@ -203,59 +159,56 @@ fn refused(verdict: u8) -> Reading
     }
 }
 
-fn verdict_on(len: usize, good: bool) -> u8
-    ensures { λ r. ⌜ r ≡ choose (not (eqb len (places * recordLength))) badImage (choose good accepted badTable) ⌝ }
+// Whether a table that was read from the bytes keeps the rules, and which slot is active. Its rows were made from its tasks and their
+// places, so no row is walked over: each task is asked whether it stands at its place.
+fn check_placed(table: Table, bytes: &[u8]) -> Checked
+    requires { ⌜ length (now bytes) ≡ slotCount * recordLength ⌝ }
+    ensures { λ r. ⌜ r ≡ checkedPlaced table (now (bytes .entry)) ⌝ }
 {
-    if len != IMAGE {
-        return BAD_IMAGE;
-    }
-    if good { ACCEPTED } else { BAD_TABLE }
-}
-
-// The table that the bytes give, with the verdict on them. Its rows were made from its tasks and their places, so no row is walked over:
-// each task is asked whether it stands at its place. It has one way out, and makes no table of its own where it refuses, so that the
-// decoded one is handed on in place.
-pub fn given(bytes: &[u8]) -> Reading
-    ensures { λ r. ⌜ r ≡ givenImage places (now (bytes .entry)) ⌝ }
-{
-    let decoded = decode(bytes);
-    let table = decoded.table;
     let tasks = table.tasks;
+    let queues = table.queues;
     let used = used_slots(tasks);
     let active = first_active(tasks);
-    let mut good = decoded.exact & together(tasks, table.ready, used, active);
+    let mut good = (1 <= used) & idle(queues, active) & single(queues);
     let mut s = 0;
-    while s < used {
-        let x = table.tasks[s];
-        let tid = s as u8 + 1;
-        let place = place_in(bytes, s);
-        good &= good_used(x, used, s, active, table.senders[s].len);
-        let k = ready_key(x);
-        if k < PRIORITIES {
-            let row = table.ready[k];
-            good &= row.stands(place, tid);
-        }
-        let g = senders_key(x);
-        if g < SLOTS {
-            let row = table.senders[g];
-            good &= row.stands(place, tid);
-        }
-        let e = event_key(x);
-        if e < EVENTS {
-            good &= table.waiters[e] == tid;
+    while s < SLOTS {
+        let task = tasks[s];
+        good &= good_slot(task, s, used, active, queues[FIRST_SEND + s].len);
+        let k = queue_of(task);
+        if k < QUEUES {
+            let row = queues[k];
+            good &= row.stands(bytes[s * RECORD + PLACE], mark_of(s));
         }
         s += 1;
     }
+    Checked { good, active }
+}
+
+// The table that the bytes give, with the verdict on them.
+pub fn given(bytes: &[u8]) -> Reading
+    ensures { λ r. ⌜ r ≡ givenImage slotCount (now (bytes .entry)) ⌝ }
+{
+    if bytes.len() != IMAGE {
+        return refused(BAD_IMAGE);
+    }
+    let decoded = decode(bytes);
+    let table = decoded.table;
+    let checked = check_placed(table, bytes);
+    let verdict = if decoded.exact & checked.good {
+        ACCEPTED
+    } else {
+        BAD_TABLE
+    };
     Reading {
         table,
-        active,
-        verdict: verdict_on(bytes.len(), good),
+        active: checked.active,
+        verdict,
     }
 }
 
 // The table of an image. Refused by 7 where its length is another, then by 2 where it is not the image of a good table.
 pub fn read(bytes: &[u8]) -> Reading
-    ensures { λ r. ⌜ r ≡ readImage places (now (bytes .entry)) ⌝ }
+    ensures { λ r. ⌜ r ≡ readImage slotCount (now (bytes .entry)) ⌝ }
 {
     let reading = given(bytes);
     if reading.verdict == BAD_TABLE {

@@ -14,8 +14,8 @@ use lines::Block;
 use lines::LONGEST;
 use lines::fresh_block;
 use lines::show_block;
-use task::task::AREA;
-use task::task::SLOTS;
+use tid::sizes::SLOTS;
+use tid::sizes::AREA;
 
 // The first task's priority.
 const FIRST: u32 = 16;

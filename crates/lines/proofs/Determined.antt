@@ -4,7 +4,7 @@ use Prim.Native.Nat.{ℕ}
 use mathlib.Core.Path.{refl, _∙⁻¹_}
 use mathlib.Core.List.{List}
 use denote.Ref.{now}
-use Rattle.queue.specs.Determined.{Determines}
+use Rattle.tid.specs.Determined.{Determines}
 use Rattle.lines.proofs.shown.line.Reads as line
 use Rattle.lines.proofs.block.fresh_block.Reads as fresh-block
 use Rattle.lines.proofs.block.show_block.Reads as show-block

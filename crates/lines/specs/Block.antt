@@ -5,7 +5,7 @@ use mathlib.Core.List.{List, [], _∷_, _++_}
 use lib.ListN.{length}
 use lib.Dec.{eqb}
 use Rattle.queue.specs.Choose.{choose}
-use Rattle.queue.specs.Row.{places}
+use Rattle.tid.specs.Sizes.{slotCount}
 use Rattle.kernel.specs.declared.table.Table.{Table}
 use Rattle.kernel.specs.declared.table.Request.{Request}
 use Rattle.kernel.specs.Decide.{decide}
@@ -55,7 +55,7 @@ requests bytes = requestsIn bytes (length bytes / requestLength)
 
 -- a fresh kernel, whose first step is number 1; a priority that is none gives one where nobody is
 abbrev pub freshBlock : ℕ → Block
-freshBlock priority = record { table = started places priority .table; step = 1; end = 0 }
+freshBlock priority = record { table = started slotCount priority .table; step = 1; end = 0 }
 
 -- where a block of records starts: with no line yet
 abbrev pub begun : Block → List ℕ → Standing

@@ -6,8 +6,8 @@ use mathlib.Core.Bool.{true}
 use mathlib.Core.List.{List}
 use lib.ListN.{length}
 use borrow.Author.Needs.{needs}
-use Rattle.queue.specs.Row.{places}
-use Rattle.task.specs.Task.{areaBytes}
+use Rattle.tid.specs.Sizes.{slotCount}
+use Rattle.tid.specs.Sizes.{areaBytes}
 use Rattle.kernel.specs.Numbers.{accepted, badAreas, badTable, badRecord, badImage}
 use Rattle.kernel.specs.declared.table.Decision.{Decision}
 use Rattle.kernel.specs.Table.{slots}
@@ -46,10 +46,10 @@ room p = omega arith
 asked : (p : tie.Else2) → length (request (opened (p .before .before))) ≡ requestLength
 asked p = omega arith
 
-sized : (p : tie.Else3) → length (image (opened (p .before .before .before))) ≡ places * recordLength
+sized : (p : tie.Else3) → length (image (opened (p .before .before .before))) ≡ slotCount * recordLength
 sized p = omega arith
 
-lent : (p : tie.Else4) → length (areas (opened (p .before .before .before .before))) ≡ places * areaBytes
+lent : (p : tie.Else4) → length (areas (opened (p .before .before .before .before))) ≡ slotCount * areaBytes
 lent p = omega arith
 
 -- where the decision is made, the image was read as a good table
@@ -61,23 +61,23 @@ abbrev begun : tie.After-decide-at → tie.Start
 begun p = opened (fitting p .before .before .before .before)
 
 good : (p : tie.After-decide-at)
-    → (isImage places (image (begun p)) ≡ true) × (p .before .before .before .before .before .given .result ≡ reading (tableOf places (image (begun p))) accepted)
+    → (isImage slotCount (image (begun p)) ≡ true) × (p .before .before .before .before .before .given .result ≡ reading (tableOf slotCount (image (begun p))) accepted)
 good p =
     let met = p .before .before .before .before .before in
     let none = p .before .before .before .if5 .left in
     let verdict = ap (λ (x : Reading). x .verdict) (met .given .ensures) in
-    let found = given-good places (image (begun p)) (sized (fitting p .before)) (rw verdict at none) in
+    let found = given-good slotCount (image (begun p)) (sized (fitting p .before)) (rw verdict at none) in
     (found .0, met .given .ensures ∙ found .1)
 
-fit : (p : tie.After-decide-at) → unfit places (image (begun p)) (areas (begun p)) (request (begun p)) ≡ accepted
+fit : (p : tie.After-decide-at) → unfit slotCount (image (begun p)) (areas (begun p)) (request (begun p)) ≡ accepted
 fit p =
     let start = begun p in
     let passed = fitting p in
-    fits places (image start) (areas start) (request start) (answer start) (asked (passed .before .before)) (sized (passed .before)) (lent passed) (good p .0)
+    fits slotCount (image start) (areas start) (request start) (answer start) (asked (passed .before .before)) (sized (passed .before)) (lent passed) (good p .0)
 
 -- the decision is that of the table which the image gives
-decided : (p : tie.After-decide-at) → p .decide-at .result ≡ decide (tableOf places (image (begun p))) (requestFrom (request (begun p)))
-decided p = decided-read places (image (begun p)) (good p .1) (p .before .request-from .ensures) (p .decide-at .ensures)
+decided : (p : tie.After-decide-at) → p .decide-at .result ≡ decide (tableOf slotCount (image (begun p))) (requestFrom (request (begun p)))
+decided p = decided-read slotCount (image (begun p)) (good p .1) (p .before .request-from .ensures) (p .decide-at .ensures)
 
 cast-result : tie.Need-cast-result
 cast-result c = search needs
@@ -85,7 +85,7 @@ cast-result c = search needs
 returns : tie.Need-returns
 returns c =
     let start = opened (c .before) in
-    wrong-answer places (image start) (areas start) (request start) (answer start) (λ e. omega arith)
+    wrong-answer slotCount (image start) (areas start) (request start) (answer start) (λ e. omega arith)
 
 refuse-requires : tie.Need-refuse-requires
 refuse-requires c κs = search needs
@@ -99,8 +99,8 @@ returns-2 c =
     let here = told .before .before in
     let passed = here .before in
     let start = opened (passed .before) in
-    unfit-call places (image start) (areas start) (request start) (answer start) (room passed) badRecord (omega arith)
-    (unfit-record places (image start) (areas start) (request start) (answer start) (λ e. omega arith))
+    unfit-call slotCount (image start) (areas start) (request start) (answer start) (room passed) badRecord (omega arith)
+    (unfit-record slotCount (image start) (areas start) (request start) (answer start) (λ e. omega arith))
     (told .refuse .ensures)
 
 refuse-requires-2 : tie.Need-refuse-requires-2
@@ -115,8 +115,8 @@ returns-3 c =
     let here = told .before .before in
     let passed = here .before in
     let start = opened (passed .before .before) in
-    unfit-call places (image start) (areas start) (request start) (answer start) (room (passed .before)) badImage (omega arith)
-    (unfit-image places (image start) (areas start) (request start) (answer start) (asked passed) (λ e. omega arith))
+    unfit-call slotCount (image start) (areas start) (request start) (answer start) (room (passed .before)) badImage (omega arith)
+    (unfit-image slotCount (image start) (areas start) (request start) (answer start) (asked passed) (λ e. omega arith))
     (told .refuse2 .ensures)
 
 mul-if4 : tie.Need-mul-if4
@@ -134,8 +134,8 @@ returns-4 c =
     let here = told .before .before in
     let passed = here .before in
     let start = opened (passed .before .before .before) in
-    unfit-call places (image start) (areas start) (request start) (answer start) (room (passed .before .before)) badAreas (omega arith)
-    (unfit-areas places (image start) (areas start) (request start) (answer start) (asked (passed .before)) (sized passed) (λ e. omega arith))
+    unfit-call slotCount (image start) (areas start) (request start) (answer start) (room (passed .before .before)) badAreas (omega arith)
+    (unfit-areas slotCount (image start) (areas start) (request start) (answer start) (asked (passed .before)) (sized passed) (λ e. omega arith))
     (told .refuse3 .ensures)
 
 given-requires : tie.Need-given-requires
@@ -157,9 +157,9 @@ returns-5 c =
     let met = here .before .before in
     let passed = met .before .before in
     let start = opened (passed .before .before .before .before) in
-    let bad = given-bad places (image start) (sized (passed .before)) (rw (ap (λ (x : Reading). x .verdict) (met .given .ensures)) at (here .if5 .taken)) in
-    unfit-call places (image start) (areas start) (request start) (answer start) (room (passed .before .before .before)) badTable (omega arith)
-    (unfit-table places (image start) (areas start) (request start) (answer start) (asked (passed .before .before)) (sized (passed .before)) (lent passed) bad)
+    let bad = given-bad slotCount (image start) (sized (passed .before)) (rw (ap (λ (x : Reading). x .verdict) (met .given .ensures)) at (here .if5 .taken)) in
+    unfit-call slotCount (image start) (areas start) (request start) (answer start) (room (passed .before .before .before)) badTable (omega arith)
+    (unfit-table slotCount (image start) (areas start) (request start) (answer start) (asked (passed .before .before)) (sized (passed .before)) (lent passed) bad)
     (told .refuse4 .ensures)
 
 request-from-requires : tie.Need-request-from-requires
@@ -187,7 +187,7 @@ returns-6 c =
     let made = here .before .before .before .before in
     let passed = fitting made in
     let start = opened (passed .before .before .before .before) in
-    refused-call places (image start) (areas start) (request start) (answer start) (room (passed .before .before .before)) (made .decide-at .result)
+    refused-call slotCount (image start) (areas start) (request start) (answer start) (room (passed .before .before .before)) (made .decide-at .result)
     (fit made) (decided made) (here .if6 .taken) (put .put-answer .ensures)
 
 apply-requires : tie.Need-apply-requires
@@ -220,9 +220,9 @@ returns-7 c =
     let made = here .before .before .before .before in
     let passed = fitting made in
     let start = begun made in
-    let slots : slots (made .decide-at .result .table) ≡ places =
-    ap (λ (d : Decision). length (d .table .tasks)) (decided made) ∙ next-slots places (image start) (request start) (omega arith) (good made .0) in
-    accepted-call places (image start) (areas start) (request start) (answer start) (room (passed .before .before .before)) (made .decide-at .result)
+    let slots : slots (made .decide-at .result .table) ≡ slotCount =
+    ap (λ (d : Decision). length (d .table .tasks)) (decided made) ∙ next-slots slotCount (image start) (request start) (omega arith) (good made .0) in
+    accepted-call slotCount (image start) (areas start) (request start) (answer start) (room (passed .before .before .before)) (made .decide-at .result)
     (fit made) (decided made) (here .if6 .left) slots (sized (passed .before)) (kept .store .ensures) (moved .apply .ensures) (put .put-answer2 .ensures)
 
 pub kernel-step-spec : {M : Type 1} → statement M

@@ -1,7 +1,7 @@
 -- `main`: a fresh kernel of priority 16 is good.
 use native.Mathlib.Omega.{arith}
 use borrow.Author.Needs.{needs}
-use Rattle.queue.specs.Row.{places}
+use Rattle.tid.specs.Sizes.{slotCount}
 use Rattle.rules.proofs.Good.{facts-good}
 use Rattle.rules.proofs.Fresh.{fresh-good}
 use Rattle.kernel_run.proofs.main.Statement.{statement}
@@ -15,7 +15,7 @@ slice-aggregate-run c = search needs
 
 run-requires : tie.Need-run-requires
 run-requires c κs =
-    rw (c .before .fresh-block .ensures) (facts-good places _ (fresh-good places 16 (omega arith) (omega arith)))
+    rw (c .before .fresh-block .ensures) (facts-good slotCount _ (fresh-good slotCount 16 (omega arith) (omega arith)))
 
 returns : tie.Need-returns
 returns c = search needs

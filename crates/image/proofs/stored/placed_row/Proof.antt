@@ -7,7 +7,7 @@ use lib.ListN.{length, set}
 use lib.Seq.{set-out}
 use borrow.Author.Needs.{needs}
 use Rattle.queue.specs.declared.Queue.{Queue}
-use Rattle.queue.specs.Row.{places}
+use Rattle.queue.specs.Numbering.{places}
 use Rattle.image.proofs.stored.placed_row.Statement.{statement}
 use Rattle.image.proofs.stored.placed_row.Tie as tie
 
@@ -22,15 +22,15 @@ returns c =
     let joined = c .before in
     let q = joined .before .args .t1 in
     let place = joined .before .args .place in
-    let tid = joined .before .args .tid in
-    let l : length (q .tids) ≡ places = search needs in
-    let put : joined .if1 .q ≡ record { tids = set (q .tids) place tid; len = q .len } =
+    let mark = joined .before .args .mark in
+    let l : length (q .marks) ≡ places = search needs in
+    let put : joined .if1 .q ≡ record { marks = set (q .marks) place mark; len = q .len } =
     ⊎-elim (λ w. w .1)
-    (λ w. w .1 ∙ rw (set-out (q .tids) place tid (omega (arith, w .0 .left))))
+    (λ w. w .1 ∙ rw (set-out (q .marks) place mark (omega (arith, w .0 .left))))
     (joined .if1 .came) in
-    let reaches : c .reach .result ≡ max (q .len) (min (place + 1) (length (q .tids))) =
+    let reaches : c .reach .result ≡ max (q .len) (min (place + 1) (length (q .marks))) =
     c .reach .ensures ∙ rw (ap (λ (x : Queue). x .len) put, l) in
-    λ i. record { tids = put i .tids; len = reaches i }
+    λ i. record { marks = put i .marks; len = reaches i }
 
 pub placed-row-spec : {M : Type 1} → statement M
 placed-row-spec = tie.close (tie.spec element-write-q reach-requires returns)

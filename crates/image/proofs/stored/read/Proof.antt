@@ -1,7 +1,7 @@
 -- `image::stored::read`: what is given, unless it is refused for a broken rule.
 use mathlib.Core.Path.{sym, ap, _∙_}
 use borrow.Author.Needs.{needs}
-use Rattle.queue.specs.Row.{places}
+use Rattle.tid.specs.Sizes.{slotCount}
 use Rattle.image.specs.declared.stored.Reading.{Reading}
 use Rattle.image.proofs.Made.{read-given, read-broken}
 use Rattle.image.proofs.stored.read.Statement.{statement}
@@ -19,14 +19,14 @@ returns c =
     let met = here .before .before in
     let bytes = met .before .before .args .bytes .now in
     let verdict = ap (λ (x : Reading). x .verdict) (met .given .ensures) in
-    c .refused .ensures ∙ read-broken places bytes (sym verdict ∙ here .if1 .taken)
+    c .refused .ensures ∙ read-broken slotCount bytes (sym verdict ∙ here .if1 .taken)
 
 returns-2 : tie.Need-returns-2
 returns-2 c =
     let met = c .before .before in
     let bytes = met .before .before .args .bytes .now in
     let verdict = ap (λ (x : Reading). x .verdict) (met .given .ensures) in
-    met .given .ensures ∙ read-given places bytes (λ e. c .if1 .left (verdict ∙ e))
+    met .given .ensures ∙ read-given slotCount bytes (λ e. c .if1 .left (verdict ∙ e))
 
 pub read-spec : {M : Type 1} → statement M
 read-spec = tie.close (tie.spec given-requires refused-requires returns returns-2)

@@ -1,7 +1,7 @@
 -- `image::stored::refused` meets its contract: where every slot is unused, none is active.
 use borrow.Author.Needs.{needs}
 use Rattle.queue.specs.Choose.{firstFrom}
-use Rattle.queue.specs.Row.{places}
+use Rattle.tid.specs.Sizes.{slotCount}
 use Rattle.kernel.specs.Table.{activeSlot}
 use Rattle.image.proofs.stored.refused.Statement.{statement}
 use Rattle.image.proofs.stored.refused.Tie as tie
@@ -11,7 +11,7 @@ unused-table-requires c κs = search needs
 
 returns : tie.Need-returns
 unfolding activeSlot firstFrom
-returns c = λ i. record { table = c .unused-table .ensures i; active = places; verdict = c .before .args .verdict }
+returns c = λ i. record { table = c .unused-table .ensures i; active = slotCount; verdict = c .before .args .verdict }
 
 pub refused-spec : {M : Type 1} → statement M
 refused-spec = tie.close (tie.spec unused-table-requires returns)

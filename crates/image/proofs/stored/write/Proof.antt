@@ -4,7 +4,7 @@ use mathlib.Core.Path.{sym, ap, _∙_, _≡_}
 use lib.ListN.{length}
 use borrow.Author.Tests.{not-true, not-false}
 use borrow.Author.Needs.{needs}
-use Rattle.queue.specs.Row.{places}
+use Rattle.tid.specs.Sizes.{slotCount}
 use Rattle.rules.specs.declared.Checked.{Checked}
 use Rattle.kernel.specs.Table.{slots}
 use Rattle.kernel.proofs.Owned.{owned-shaped}
@@ -13,7 +13,7 @@ use Rattle.image.proofs.Made.{write-short, write-bad, write-good}
 use Rattle.image.proofs.stored.write.Statement.{statement}
 use Rattle.image.proofs.stored.write.Tie as tie
 
-sized : (c : tie.Start) → slots (c .args .table) ≡ places
+sized : (c : tie.Start) → slots (c .args .table) ≡ slotCount
 sized c = owned-shaped (c .args .table) _ (c .good .0) .tasks
 
 returns : tie.Need-returns
