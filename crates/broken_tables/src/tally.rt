@@ -8,11 +8,12 @@ use std::num::wrapping_add_u64;
 use tid::sizes::AREA;
 use tid::sizes::SLOTS;
 
-// How many tables of a kind, good ones or broken ones, were tried, and how many of them were found to be so.
+// How many broken tables and how many good ones were tried, and how many of each were found to be so.
 pub(crate) struct Tally {
-    pub good: bool,
-    pub tried: u64,
-    pub found: u64,
+    pub broken: u64,
+    pub refused: u64,
+    pub good: u64,
+    pub accepted: u64,
 }
 
 // Whether a step of the table is accepted: an event that nobody awaits, which is refused only for a broken rule.
@@ -31,52 +32,52 @@ fn is_accepted(table: Table) -> bool {
     answer.verdict == ACCEPTED
 }
 
-// What was found of a table, in capitals where it should not have been.
-fn line(name: &[u8], good: bool, accepted: bool) {
-    io::write_all(STDOUT_FILENO, name);
-    if good {
-        if accepted {
-            io::write_all(STDOUT_FILENO, b": accepted\n");
-        } else {
-            io::write_all(STDOUT_FILENO, b": REFUSED\n");
-        }
+// A case by its name, which stands behind two bytes of its line, and what was found.
+fn write_case(line: &[u8], accepted: bool) {
+    if 2 <= line.len() {
+        io::write_all(STDOUT_FILENO, &line[2..]);
+    }
+    if accepted {
+        io::write_all(STDOUT_FILENO, b": accepted\n");
     } else {
-        if accepted {
-            io::write_all(STDOUT_FILENO, b": ACCEPTED\n");
-        } else {
-            io::write_all(STDOUT_FILENO, b": refused\n");
-        }
+        io::write_all(STDOUT_FILENO, b": refused\n");
     }
 }
 
+fn one_if(counted: bool) -> u64 {
+    if counted { 1 } else { 0 }
+}
+
 impl Tally {
-    pub(crate) fn of(good: bool) -> Self {
+    pub(crate) fn none() -> Self {
         Self {
-            good,
-            tried: 0,
-            found: 0,
+            broken: 0,
+            refused: 0,
+            good: 0,
+            accepted: 0,
         }
     }
 
-    // Writes and counts what a step says of a table.
-    pub(crate) fn found(self, name: &[u8], table: Table) -> Self {
+    // Writes and counts what a step says of a table, which is to be accepted if it is good.
+    pub(crate) fn found(self, line: &[u8], good: bool, table: Table) -> Self {
         let accepted = is_accepted(table);
-        line(name, self.good, accepted);
-        let mut found = self.found;
-        if accepted == self.good {
-            found = wrapping_add_u64(found, 1);
-        }
+        write_case(line, accepted);
         Tally {
-            good: self.good,
-            tried: wrapping_add_u64(self.tried, 1),
-            found,
+            broken: wrapping_add_u64(self.broken, one_if(!good)),
+            refused: wrapping_add_u64(self.refused, one_if(!good & !accepted)),
+            good: wrapping_add_u64(self.good, one_if(good)),
+            accepted: wrapping_add_u64(self.accepted, one_if(good & accepted)),
         }
     }
 
-    pub(crate) fn write(self, words: &[u8]) {
-        io::print_decimal(STDOUT_FILENO, self.found);
+    pub(crate) fn write(self) {
+        io::print_decimal(STDOUT_FILENO, self.refused);
         io::write_all(STDOUT_FILENO, b" of ");
-        io::print_decimal(STDOUT_FILENO, self.tried);
-        io::write_all(STDOUT_FILENO, words);
+        io::print_decimal(STDOUT_FILENO, self.broken);
+        io::write_all(STDOUT_FILENO, b" broken tables refused, ");
+        io::print_decimal(STDOUT_FILENO, self.accepted);
+        io::write_all(STDOUT_FILENO, b" of ");
+        io::print_decimal(STDOUT_FILENO, self.good);
+        io::write_all(STDOUT_FILENO, b" good ones accepted\n");
     }
 }
