@@ -3,9 +3,9 @@ use crate::busy::idle;
 use crate::put::bare;
 use crate::put::last_place;
 use crate::put::row;
+use crate::put::task_of;
 use crate::put::with_queue;
 use crate::put::with_task;
-use crate::put::task_of;
 use crate::text::NUMBERS;
 use kernel::table::Table;
 use queue::Queue;
@@ -13,7 +13,7 @@ use queue::numbering::event_queue;
 use queue::numbering::ready_queue;
 use queue::numbering::send_queue;
 use task::task::Buffer;
-use task::task::Outcome;
+use task::task::Result;
 use task::task::State;
 use task::task::Task;
 
@@ -53,7 +53,7 @@ fn state_of(n: [u32; NUMBERS]) -> State {
 fn changed_task(old: Task, what: u8, n: [u32; NUMBERS]) -> Task {
     let second = narrow(n[1]);
     let state = old.state;
-    let outcome = old.outcome;
+    let result = old.result;
     let parent = old.parent;
     let priority = old.priority;
     match what {
@@ -61,23 +61,23 @@ fn changed_task(old: Task, what: u8, n: [u32; NUMBERS]) -> Task {
             state,
             priority: second,
             parent,
-            outcome,
+            result,
         },
         b'A' => Task {
             state,
             priority,
             parent: second,
-            outcome,
+            result,
         },
         b'V' => old.becomes(
             state,
-            Outcome::Value {
+            Result::Value {
                 from: second,
                 value: n[2],
             },
         ),
-        b'F' => old.becomes(state, Outcome::Fault(second)),
-        b'T' => old.becomes(state_of(n), outcome),
+        b'F' => old.becomes(state, Result::Fault(second)),
+        b'T' => old.becomes(state_of(n), result),
         b'H' => bare(State::Unused, 0),
         b'E' => bare(State::Exited, second),
         _ => old,

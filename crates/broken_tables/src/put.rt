@@ -4,7 +4,7 @@ use kernel::table::Table;
 use queue::Queue;
 use queue::numbering::PLACES;
 use queue::numbering::QUEUES;
-use task::task::Outcome;
+use task::task::Result;
 use task::task::State;
 use task::task::Task;
 use tid::sizes::SLOTS;
@@ -32,7 +32,7 @@ pub(crate) fn bare(state: State, parent: u8) -> Task {
         state,
         priority: 0,
         parent,
-        outcome: Outcome::Nothing,
+        result: Result::Nothing,
     }
 }
 

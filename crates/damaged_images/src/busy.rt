@@ -8,8 +8,8 @@ use kernel::numbers::CREATE;
 use kernel::numbers::EXIT;
 use kernel::numbers::RECEIVE;
 use kernel::numbers::SEND;
-use tid::sizes::SLOTS;
 use tid::sizes::AREA;
+use tid::sizes::SLOTS;
 
 // The task that sends are queued at.
 const SERVER: u8 = 7;

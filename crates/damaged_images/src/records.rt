@@ -6,9 +6,9 @@ use crate::damage::good_values;
 use crate::damage::wrong;
 use image::stored::IMAGE;
 use libc::STDOUT_FILENO;
-use tid::slot_named;
 use queue::wide;
 use std::num::wrapping_add_u64;
+use tid::slot_named;
 
 // The records that are damaged: twelve tasks, and the first unused slot.
 const DAMAGED: u8 = 13;

@@ -6,8 +6,8 @@ use image::stored::IMAGE;
 use image::stored::read;
 use kernel::numbers::EVENT;
 use libc::STDOUT_FILENO;
-use tid::sizes::SLOTS;
 use tid::sizes::AREA;
+use tid::sizes::SLOTS;
 
 const SEED: u32 = 2026;
 

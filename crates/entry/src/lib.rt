@@ -7,7 +7,7 @@ use image::call::REQUEST;
 use image::call::put_answer;
 use image::call::request_from;
 use image::stored::IMAGE;
-use image::stored::given;
+use image::stored::judged;
 use image::stored::store;
 use kernel::numbers::ACCEPTED;
 use kernel::numbers::BAD_ANSWER;
@@ -16,10 +16,10 @@ use kernel::numbers::BAD_IMAGE;
 use kernel::numbers::BAD_RECORD;
 use kernel::numbers::BAD_TABLE;
 use kernel::table::Answer;
-use tid::sizes::SLOTS;
 use step::areas::apply;
+use task::task::Result;
 use tid::sizes::AREA;
-use task::task::Outcome;
+use tid::sizes::SLOTS;
 
 // A refusal is answered with no next task and no result; its number is also returned.
 fn refuse(verdict: u8, answer: &mut [u8]) -> u32
@@ -29,7 +29,7 @@ fn refuse(verdict: u8, answer: &mut [u8]) -> u32
         Answer {
             verdict,
             next: 0,
-            outcome: Outcome::Nothing,
+            result: Result::Nothing,
         },
         &mut *answer,
     );
@@ -58,7 +58,7 @@ pub extern "C" fn kernel_step(
     if areas.len() != SLOTS * AREA {
         return refuse(BAD_AREAS, &mut *answer);
     }
-    let reading = given(&*image);
+    let reading = judged(&*image);
     if ACCEPTED < reading.verdict {
         return refuse(BAD_TABLE, &mut *answer);
     }

@@ -9,8 +9,8 @@ use kernel::numbers::OWN_WRITE;
 use kernel::numbers::RECEIVE;
 use kernel::numbers::SEND;
 use libc::STDOUT_FILENO;
-use tid::sizes::SLOTS;
 use tid::sizes::AREA;
+use tid::sizes::SLOTS;
 
 const AREAS: usize = SLOTS * AREA;
 

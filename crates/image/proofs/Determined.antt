@@ -1,9 +1,9 @@
 -- Each public function's own promise leaves no choice: see `Determines` in queue/specs/Determined.antt. The bytes that are lent
--- to be written are part of the outcome: of the parameters at exit, s .0, s .1 .0 and so on, the last.
+-- to be written are part of the result: of the parameters at exit, s .0, s .1 .0 and so on, the last.
 use mathlib.Core.Path.{refl, _∙⁻¹_}
 use denote.Ref.{now}
 use Rattle.tid.specs.Determined.{Determines, DeterminesResult}
-use Rattle.image.proofs.stored.given.Reads as given
+use Rattle.image.proofs.stored.judged.Reads as given
 use Rattle.image.proofs.stored.read.Reads as read
 use Rattle.image.proofs.stored.write.Reads as write
 use Rattle.image.proofs.stored.store.Reads as store

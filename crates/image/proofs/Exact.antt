@@ -31,7 +31,7 @@ use Rattle.rules.proofs.Made.{placed-good}
 use Rattle.image.specs.declared.stored.Decoded.{Decoded}
 use Rattle.image.specs.Bytes.{inOrder, recordAt, same}
 use Rattle.image.specs.Record.{recordLength, storedPlace, taskRecord, recordOf, placeIn}
-use Rattle.image.specs.Image.{imageOf, tableOf, isImage, givenImage}
+use Rattle.image.specs.Image.{imageOf, tableOf, isImage, judgedImage}
 use Rattle.image.specs.Exact.{exactRecord, exactUpTo, decodedOf, checkedPlaced}
 use Rattle.image.proofs.Bytes.{recordAt-inOrder, same-true, same-refl}
 use Rattle.image.proofs.Stands.{stored-in, stored-none}
@@ -159,8 +159,8 @@ pub given-placed : (n : ℕ) (bytes : List ℕ) → length bytes ≡ n * recordL
     → d ≡ decodedOf n bytes
     → k ≡ checkedPlaced (d .table) bytes
     → verdict ≡ choose (d .exact && k .good) accepted badTable
-    → record { table = d .table; active = k .active; verdict = verdict } ≡ givenImage n bytes
-unfolding givenImage
+    → record { table = d .table; active = k .active; verdict = verdict } ≡ judgedImage n bytes
+unfolding judgedImage
 given-placed n bytes whole small decoded checked verdict =
     let t = tableOf n bytes in
     rw (

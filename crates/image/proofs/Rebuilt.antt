@@ -11,18 +11,18 @@ use lib.Dec.{eqb, ltb}
 use borrow.Author.Tests.{eqb-true, eq-eqb, ne-eqb, lt-ltb}
 use Rattle.queue.specs.Choose.{choose}
 use Rattle.queue.proofs.Below.{both-true, true-both, by-test, same-test, all-below, below-all}
-use Rattle.task.specs.declared.task.Outcome.{Outcome}
-use Rattle.task.specs.declared.task.Outcome.the-variants.{Nothing, Fault}
+use Rattle.task.specs.declared.task.Result.{Result}
+use Rattle.task.specs.declared.task.Result.the-variants.{Nothing, Fault}
 use Rattle.task.specs.declared.task.State.{State}
 use Rattle.task.specs.Task.{stateCode, messageOf, replyOf, awaited, isUsed, isReady, isReceiveBlocked}
 use Rattle.task.specs.declared.task.Task.{Task}
 use Rattle.image.specs.declared.fields.Parts.{Parts}
-use Rattle.image.specs.declared.fields.Told.{Told}
+use Rattle.image.specs.declared.fields.ResultParts.{ResultParts}
 use Rattle.image.specs.Bytes.{bytesOf, numberIn, same}
 use Rattle.task.specs.Result.{negated, resultWord}
-use Rattle.image.specs.Told.{toldOf}
-use Rattle.image.specs.Record.{recordLength, atState, atPriority, atParent, atPlace, atAwaited, atResult, atMessage, atReply, atFrom, atSpare, atWord, byteIn, bufferIn, bufferBytes, partsOf, partsIn, toldIn, stateFrom, outcomeFrom, fields, taskRecord, usedFrom, taskFrom, placeFrom}
-use Rattle.image.specs.Exact.{sameParts, sameTold, exactRest, exactUsed, exactRecord}
+use Rattle.image.specs.ResultParts.{resultPartsOf}
+use Rattle.image.specs.Record.{recordLength, atState, atPriority, atParent, atPlace, atAwaited, atResult, atMessage, atReply, atFrom, atSpare, atWord, byteIn, bufferIn, bufferBytes, partsOf, partsIn, resultPartsIn, stateFrom, resultOf, fields, taskRecord, usedFrom, taskFrom, placeFrom}
+use Rattle.image.specs.Exact.{sameParts, sameResultParts, exactRest, exactUsed, exactRecord}
 use Rattle.image.proofs.Made.{record-made, eqb-same}
 use Rattle.image.proofs.Bytes.{number-back, same-true, same-refl}
 
@@ -98,8 +98,8 @@ same-parts p q h =
       reply = record { start = eqb-true (p .reply .start) (q .reply .start) e₅ i; len = eqb-true (p .reply .len) (q .reply .len) e₆ i };
     }
 
-same-told : (p q : Told) → sameTold p q ≡ true → p ≡ q
-same-told p q h =
+same-result-parts : (p q : ResultParts) → sameResultParts p q ≡ true → p ≡ q
+same-result-parts p q h =
     let (h₂, e₃) = both-true _ _ h in
     let (e₁, e₂) = both-true _ _ h₂ in
     λ i. record {
@@ -111,8 +111,8 @@ same-told p q h =
 same-parts-refl : (p : Parts) → sameParts p p ≡ true
 same-parts-refl p = simp eqb-same
 
-same-told-refl : (p : Told) → sameTold p p ≡ true
-same-told-refl p = simp eqb-same
+same-result-parts-refl : (p : ResultParts) → sameResultParts p p ≡ true
+same-result-parts-refl p = simp eqb-same
 
 -- the numbers of what was read fit their bytes
 record Fits (st : State) : Type 0 where
@@ -143,14 +143,14 @@ module _ (r : List ℕ) (size : length r ≡ recordLength) (small : Bytes r) whe
       (either Fits (eqb code 7) (record { message-start = none; message-len = none; reply-start = none; reply-len = none })
       (record { message-start = none; message-len = none; reply-start = none; reply-len = none })))))))
 
-  word-fits : resultWord (outcomeFrom (toldIn r)) < 256 ^ 4
+  word-fits : resultWord (resultOf (resultPartsIn r)) < 256 ^ 4
   word-fits =
-      let Small : Outcome → Type 0 = λ o. resultWord o < 256 ^ 4 in
-      let word = toldIn r .word in
+      let Small : Result → Type 0 = λ o. resultWord o < 256 ^ 4 in
+      let word = resultPartsIn r .word in
       let fault : Small (Fault (negated word)) = omega arith in
       let none : Small Nothing = omega arith in
-      either Small (eqb (toldIn r .kind) 1) (number-small 4 16 r small)
-      (either Small (eqb (toldIn r .kind) 2) (either Small (ltb (negated 4) word) fault none) none)
+      either Small (eqb (resultPartsIn r .kind) 1) (number-small 4 16 r small)
+      (either Small (eqb (resultPartsIn r .kind) 2) (either Small (ltb (negated 4) word) fault none) none)
 
   unused-exact : byteIn r atState ≡ 0 → exactRecord r ≡ true → taskRecord (taskFrom r) (keptPlace r) ≡ r
   unfolding taskFrom taskRecord exactRecord
@@ -182,19 +182,19 @@ module _ (r : List ℕ) (size : length r ≡ recordLength) (small : Bytes r) whe
     unfolding usedFrom
     used-exact h =
         let p = partsOf (stateFrom (partsIn r)) in
-        let o = toldOf (outcomeFrom (toldIn r)) in
+        let o = resultPartsOf (resultOf (resultPartsIn r)) in
         let queued = eqb (byteIn r atState) 2 || eqb (byteIn r atState) 4 in
-        let (front, rest) = both-true (sameParts p (partsIn r) && sameTold o (toldIn r)) (exactRest r) h in
-        let (parts-same, told-same) = both-true (sameParts p (partsIn r)) (sameTold o (toldIn r)) front in
+        let (front, rest) = both-true (sameParts p (partsIn r) && sameResultParts o (resultPartsIn r)) (exactRest r) h in
+        let (parts-same, told-same) = both-true (sameParts p (partsIn r)) (sameResultParts o (resultPartsIn r)) front in
         let (places, spare) = both-true (queued || eqb (byteIn r atPlace) 0) (eqb (byteIn r atSpare) 0) rest in
         let parts : p ≡ partsIn r = same-parts p (partsIn r) parts-same in
-        let told : o ≡ toldIn r = same-told o (toldIn r) told-same in
+        let told : o ≡ resultPartsIn r = same-result-parts o (resultPartsIn r) told-same in
         let code : stateCode (stateFrom (partsIn r)) ≡ byteIn r atState = ap (λ (q : Parts). q .code) parts in
         let place : placeKept r (usedFrom r) ≡ byteIn r atPlace =
         rw code
         (by-test queued (λ e. rw e) (λ e. rw e (sym (eqb-true (byteIn r atPlace) 0 (rw e at places))))) in
         used-fields (usedFrom r) (placeKept r (usedFrom r)) (rw code (lt-ltb 0 (byteIn r atState) (omega (arith, some))))
-        ∙ sym (record-made (usedFrom r) (placeKept r (usedFrom r)) (partsIn r) (toldIn r) (sym parts) (sym told))
+        ∙ sym (record-made (usedFrom r) (placeKept r (usedFrom r)) (partsIn r) (resultPartsIn r) (sym parts) (sym told))
         ∙ rebuilt r (placeKept r (usedFrom r)) 0 size small place (sym (eqb-true (byteIn r atSpare) 0 spare))
 
     fields-exact : fields (usedFrom r) (placeKept r (usedFrom r)) ≡ r → exactUsed r ≡ true
@@ -203,17 +203,17 @@ module _ (r : List ℕ) (size : length r ≡ recordLength) (small : Bytes r) whe
         let st = stateFrom (partsIn r) in
         let at : (k : ℕ) → getD (fields (usedFrom r) (placeKept r (usedFrom r))) k 0 ≡ getD r k 0 = λ k. ap (λ (x : List ℕ). getD x k 0) h in
         let two : (k : ℕ) → numberIn (fields (usedFrom r) (placeKept r (usedFrom r))) k 2 ≡ numberIn r k 2 = λ k. ap (λ (y : List ℕ). numberIn y k 2) h in
-        let word : resultWord (outcomeFrom (toldIn r)) ≡ numberIn r atWord 4 =
-        sym (number-back 4 (resultWord (outcomeFrom (toldIn r))) word-fits) ∙ ap (λ (y : List ℕ). numberIn y 16 4) h in
+        let word : resultWord (resultOf (resultPartsIn r)) ≡ numberIn r atWord 4 =
+        sym (number-back 4 (resultWord (resultOf (resultPartsIn r))) word-fits) ∙ ap (λ (y : List ℕ). numberIn y 16 4) h in
         let m₁ = sym (number-back 2 (messageOf st .start) (fits .message-start)) ∙ two 6 in
         let m₂ = sym (number-back 2 (messageOf st .len) (fits .message-len)) ∙ two 8 in
         let r₁ = sym (number-back 2 (replyOf st .start) (fits .reply-start)) ∙ two 10 in
         let r₂ = sym (number-back 2 (replyOf st .len) (fits .reply-len)) ∙ two 12 in
         let parts : partsOf st ≡ partsIn r =
         λ i. record { code = at 0 i; awaited = at 4 i; message = record { start = m₁ i; len = m₂ i }; reply = record { start = r₁ i; len = r₂ i } } in
-        let told : toldOf (outcomeFrom (toldIn r)) ≡ toldIn r = λ i. record { kind = at 5 i; from = at 14 i; word = word i } in
+        let told : resultPartsOf (resultOf (resultPartsIn r)) ≡ resultPartsIn r = λ i. record { kind = at 5 i; from = at 14 i; word = word i } in
         let same-p : sameParts (partsOf st) (partsIn r) ≡ true = ap (λ (q : Parts). sameParts q (partsIn r)) parts ∙ same-parts-refl (partsIn r) in
-        let same-o : sameTold (toldOf (outcomeFrom (toldIn r))) (toldIn r) ≡ true = ap (λ (q : Told). sameTold q (toldIn r)) told ∙ same-told-refl (toldIn r) in
+        let same-o : sameResultParts (resultPartsOf (resultOf (resultPartsIn r))) (resultPartsIn r) ≡ true = ap (λ (q : ResultParts). sameResultParts q (resultPartsIn r)) told ∙ same-result-parts-refl (resultPartsIn r) in
         let code : stateCode st ≡ byteIn r atState = at 0 in
         let kept : placeKept r (usedFrom r) ≡ byteIn r atPlace = at 3 in
         let rest : exactRest r ≡ true =

@@ -6,16 +6,16 @@ use native.Mathlib.Omega.{arith}
 use lib.Dec.{ltb, leb}
 use borrow.Author.Tests.{ltb-true, leb-true}
 use Rattle.queue.proofs.Below.{both-true}
-use Rattle.task.specs.declared.task.Outcome.{Outcome}
-use Rattle.task.specs.declared.task.Outcome.the-variants.{Nothing, Value, Fault}
+use Rattle.task.specs.declared.task.Result.{Result}
+use Rattle.task.specs.declared.task.Result.the-variants.{Nothing, Value, Fault}
 use Rattle.task.specs.Task.{firstNegative}
 use Rattle.kernel.specs.declared.table.Answer.{Answer}
-use Rattle.rules.specs.Good.{goodOutcome}
+use Rattle.rules.specs.Good.{goodResult}
 use Rattle.image.specs.Call.{answerBytes}
 use Rattle.image.specs.Shown.{Shown}
 
-shows : (used verdict next : ℕ) (o : Outcome) → goodOutcome used o ≡ true
-    → Shown (record { verdict = verdict; next = next; outcome = o })
+shows : (used verdict next : ℕ) (o : Result) → goodResult used o ≡ true
+    → Shown (record { verdict = verdict; next = next; result = o })
 unfolding answerBytes
 shows used verdict next Nothing h =
     record {
@@ -47,6 +47,6 @@ shows used verdict next (Fault f) h =
       alone = λ e. refl;
     }
 
--- where the outcome keeps the rules, its kind, its word and its sender in the answer say which it is
-pub shown : (used : ℕ) (a : Answer) → goodOutcome used (a .outcome) ≡ true → Shown a
-shown used a h = shows used (a .verdict) (a .next) (a .outcome) h
+-- where the result keeps the rules, its kind, its word and its sender in the answer say which it is
+pub shown : (used : ℕ) (a : Answer) → goodResult used (a .result) ≡ true → Shown a
+shown used a h = shows used (a .verdict) (a .next) (a .result) h

@@ -55,9 +55,9 @@ unfoldable pub answerBytes : Answer → List ℕ
 answerBytes a =
     bytesOf 4 (a .verdict)
     ++ bytesOf 4 (a .next)
-    ++ bytesOf 4 (resultKind (a .outcome))
-    ++ bytesOf 4 (resultWord (a .outcome))
-    ++ bytesOf 4 (resultFrom (a .outcome))
+    ++ bytesOf 4 (resultKind (a .result))
+    ++ bytesOf 4 (resultWord (a .result))
+    ++ bytesOf 4 (resultFrom (a .result))
 
 -- the bytes after an answer is put into them; nothing is where they are of another length
 abbrev pub answered : Answer → List ℕ → List ℕ

@@ -11,13 +11,13 @@ use Rattle.kernel.specs.Table.{activeSlot}
 use Rattle.rules.specs.declared.Checked.{Checked}
 use Rattle.rules.specs.Check.{goodPlaced}
 use Rattle.image.specs.declared.fields.Parts.{Parts}
-use Rattle.image.specs.declared.fields.Told.{Told}
+use Rattle.image.specs.declared.fields.ResultParts.{ResultParts}
 use Rattle.image.specs.declared.fields.Stated.{Stated}
-use Rattle.image.specs.declared.fields.Entry.{Entry}
+use Rattle.image.specs.declared.fields.TaskRead.{TaskRead}
 use Rattle.image.specs.declared.stored.Decoded.{Decoded}
 use Rattle.image.specs.Bytes.{recordAt}
-use Rattle.image.specs.Told.{toldOf}
-use Rattle.image.specs.Record.{recordLength, atState, atPlace, atSpare, byteIn, partsOf, partsIn, toldIn, stateFrom, outcomeFrom, taskFrom, placeIn}
+use Rattle.image.specs.ResultParts.{resultPartsOf}
+use Rattle.image.specs.Record.{recordLength, atState, atPlace, atSpare, byteIn, partsOf, partsIn, resultPartsIn, stateFrom, resultOf, taskFrom, placeIn}
 use Rattle.image.specs.Image.{tableOf}
 
 abbrev pub sameParts : Parts → Parts → Bool
@@ -29,8 +29,8 @@ sameParts p q =
     && eqb (p .reply .start) (q .reply .start)
     && eqb (p .reply .len) (q .reply .len)
 
-abbrev pub sameTold : Told → Told → Bool
-sameTold p q = eqb (p .kind) (q .kind) && eqb (p .from) (q .from) && eqb (p .word) (q .word)
+abbrev pub sameResultParts : ResultParts → ResultParts → Bool
+sameResultParts p q = eqb (p .kind) (q .kind) && eqb (p .from) (q .from) && eqb (p .word) (q .word)
 
 -- a place stands only with a ready or a receive-blocked task: the waiter of an event stands alone, at 0, and any other in no queue
 abbrev pub exactPlace : ℕ → ℕ → Bool
@@ -49,7 +49,7 @@ exactRest r = exactPlace (byteIn r atState) (byteIn r atPlace) && eqb (byteIn r 
 abbrev pub exactUsed : List ℕ → Bool
 exactUsed r =
     sameParts (partsOf (stateFrom (partsIn r))) (partsIn r)
-    && sameTold (toldOf (outcomeFrom (toldIn r))) (toldIn r)
+    && sameResultParts (resultPartsOf (resultOf (resultPartsIn r))) (resultPartsIn r)
     && exactRest r
 
 -- an unused record is all zero
@@ -59,8 +59,8 @@ exactRecord r =
     (allBelow recordLength (λ i. eqb (getD r i 0) 0))
     (exactUsed r)
 
-abbrev pub entryOf : List ℕ → Entry
-entryOf r = record { task = taskFrom r; exact = exactRecord r }
+abbrev pub taskRead : List ℕ → TaskRead
+taskRead r = record { task = taskFrom r; exact = exactRecord r }
 
 -- the first k records are exact
 abbrev pub exactUpTo : List ℕ → ℕ → Bool

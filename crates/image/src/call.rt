@@ -1,7 +1,7 @@
 // The two records of a step: what is asked, and what is answered.
-use crate::fields::told_of;
-use crate::numbers::put_word;
-use crate::numbers::word_in;
+use crate::fields::result_parts_of;
+use crate::words::put_word;
+use crate::words::word_in;
 use kernel::table::Answer;
 use kernel::table::Request;
 ghost use mathlib.Core.Path.{_≡_};
@@ -52,12 +52,12 @@ pub fn put_answer(answer: Answer, out: &mut [u8])
     ensures { λ r. ⌜ now (out .exit) ≡ answered answer (now (out .entry)) ⌝ }
 {
     if out.len() == ANSWER {
-        let outcome = answer.outcome;
-        let told = told_of(outcome);
+        let result = answer.result;
+        let numbers = result_parts_of(result);
         put_word(&mut *out, VERDICT, answer.verdict as u32);
         put_word(&mut *out, NEXT, answer.next as u32);
-        put_word(&mut *out, KIND, told.kind as u32);
-        put_word(&mut *out, VALUE, told.word);
-        put_word(&mut *out, SENDER, told.from as u32);
+        put_word(&mut *out, KIND, numbers.kind as u32);
+        put_word(&mut *out, VALUE, numbers.word);
+        put_word(&mut *out, SENDER, numbers.from as u32);
     }
 }

@@ -1,6 +1,6 @@
 // The record of a task: its fields, and the task that they give.
-use crate::numbers::short_in;
-use crate::numbers::word_in;
+use crate::words::short_in;
+use crate::words::word_in;
 use task::parts::ACTIVE;
 use task::parts::EVENT_BLOCKED;
 use task::parts::EXITED;
@@ -11,7 +11,7 @@ use task::parts::SEND_BLOCKED;
 use task::parts::UNUSED;
 use task::parts::state_code;
 use task::task::Buffer;
-use task::task::Outcome;
+use task::task::Result;
 use task::task::State;
 use task::task::Task;
 ghost use mathlib.Core.Path.{_≡_};
@@ -21,9 +21,9 @@ ghost use lib.ListN.{length, getD};
 ghost use lib.Dec.{eqb};
 ghost use Rattle.queue.specs.Choose.{allBelow};
 ghost use Rattle.task.specs.Task.{noTask};
-ghost use Rattle.image.specs.Told.{toldOf};
-ghost use Rattle.image.specs.Record.{recordLength, plainParts, partsOf, fields, taskRecord, bufferIn, partsIn, toldIn, outcomeFrom};
-ghost use Rattle.image.specs.Exact.{sameTold, statedFrom, entryOf};
+ghost use Rattle.image.specs.ResultParts.{resultPartsOf};
+ghost use Rattle.image.specs.Record.{recordLength, plainParts, partsOf, fields, taskRecord, bufferIn, partsIn, resultPartsIn, resultOf};
+ghost use Rattle.image.specs.Exact.{sameResultParts, statedFrom, taskRead};
 
 // A record's length, and where its fields start. The spare byte is 0.
 pub(crate) const RECORD: usize = 20;
@@ -61,27 +61,27 @@ const FAULT: u8 = 2;
 const MINUS_ONE: u32 = 4294967295;
 
 // The numbers of a result, in a record and in an answer: its kind, the tid that it is from, and a value or a negative fault.
-pub(crate) struct Told {
+pub(crate) struct ResultParts {
     pub kind: u8,
     pub from: u8,
     pub word: u32,
 }
 
-pub(crate) fn told_of(outcome: Outcome) -> Told
-    ensures { λ r. ⌜ r ≡ toldOf outcome ⌝ }
+pub(crate) fn result_parts_of(result: Result) -> ResultParts
+    ensures { λ r. ⌜ r ≡ resultPartsOf result ⌝ }
 {
-    match outcome {
-        Outcome::Nothing => Told {
+    match result {
+        Result::Nothing => ResultParts {
             kind: NOTHING,
             from: 0,
             word: 0,
         },
-        Outcome::Value { from, value } => Told {
+        Result::Value { from, value } => ResultParts {
             kind: VALUE,
             from,
             word: value,
         },
-        Outcome::Fault(f) => Told {
+        Result::Fault(f) => ResultParts {
             kind: FAULT,
             from: 0,
             word: std::num::wrapping_sub_u32(0, f as u32),
@@ -170,31 +170,31 @@ fn parts_in(r: &[u8]) -> Parts
     }
 }
 
-fn told_in(r: &[u8]) -> Told
+fn result_parts_in(r: &[u8]) -> ResultParts
     requires { ⌜ length (now r) ≡ recordLength ⌝ }
-    ensures { λ o. ⌜ o ≡ toldIn (now (r .entry)) ⌝ }
+    ensures { λ o. ⌜ o ≡ resultPartsIn (now (r .entry)) ⌝ }
 {
-    Told {
+    ResultParts {
         kind: r[RESULT],
         from: r[FROM],
         word: word_in(r, WORD),
     }
 }
 
-fn outcome_from(told: Told) -> Outcome
-    ensures { λ x. ⌜ x ≡ outcomeFrom told ⌝ }
+fn result_of(numbers: ResultParts) -> Result
+    ensures { λ x. ⌜ x ≡ resultOf numbers ⌝ }
 {
-    let from = told.from;
-    let word = told.word;
-    if told.kind == VALUE {
-        return Outcome::Value { from, value: word };
+    let from = numbers.from;
+    let word = numbers.word;
+    if numbers.kind == VALUE {
+        return Result::Value { from, value: word };
     }
-    if told.kind == FAULT {
+    if numbers.kind == FAULT {
         if MINUS_ONE - 3 < word {
-            return Outcome::Fault((MINUS_ONE - word) as u8 + 1);
+            return Result::Fault((MINUS_ONE - word) as u8 + 1);
         }
     }
-    Outcome::Nothing
+    Result::Nothing
 }
 
 fn no_buffer(b: Buffer) -> bool
@@ -255,9 +255,9 @@ fn stated_from(parts: Parts, place: u8) -> Stated
     }
 }
 
-// Whether the numbers of a result are those of the outcome that they give; a value may be any word, from anyone.
-fn exact_told(t: Told) -> bool
-    ensures { λ r. ⌜ r ≡ sameTold (toldOf (outcomeFrom t)) t ⌝ }
+// Whether the numbers of a result are those of the result that they give; a value may be any word, from anyone.
+fn exact_result(t: ResultParts) -> bool
+    ensures { λ r. ⌜ r ≡ sameResultParts (resultPartsOf (resultOf t)) t ⌝ }
 {
     let kind = t.kind;
     if kind == NOTHING {
@@ -290,39 +290,39 @@ fn no_task() -> Task
         state: State::Unused,
         priority: 0,
         parent: 0,
-        outcome: Outcome::Nothing,
+        result: Result::Nothing,
     }
 }
 
 // What a record gives: a task, and whether the record is what the task is written as.
-pub(crate) struct Entry {
+pub(crate) struct TaskRead {
     pub task: Task,
     pub exact: bool,
 }
 
-pub(crate) fn entry_of(r: &[u8]) -> Entry
+pub(crate) fn task_read(r: &[u8]) -> TaskRead
     requires { ⌜ length (now r) ≡ recordLength ⌝ }
-    ensures { λ e. ⌜ e ≡ entryOf (now (r .entry)) ⌝ }
+    ensures { λ e. ⌜ e ≡ taskRead (now (r .entry)) ⌝ }
 {
     if r[STATE] == UNUSED {
-        return Entry {
+        return TaskRead {
             task: no_task(),
             exact: blank(r),
         };
     }
     let parts = parts_in(r);
-    let told = told_in(r);
+    let numbers = result_parts_in(r);
     let stated = stated_from(parts, r[PLACE]);
     let state = stated.state;
-    let outcome = outcome_from(told);
+    let result = result_of(numbers);
     let task = Task {
         state,
         priority: r[PRIORITY],
         parent: r[PARENT],
-        outcome,
+        result,
     };
-    let exact = stated.exact & exact_told(told) & (r[SPARE] == 0);
-    Entry { task, exact }
+    let exact = stated.exact & exact_result(numbers) & (r[SPARE] == 0);
+    TaskRead { task, exact }
 }
 
 // The fields of a task and its place, in their order.
@@ -330,19 +330,19 @@ fn fields_of(x: Task, place: u8) -> [u8; RECORD]
     ensures { λ r. ⌜ r ≡ fields x place ⌝ }
 {
     let state = x.state;
-    let outcome = x.outcome;
+    let result = x.result;
     let parts = parts_of(state);
-    let told = told_of(outcome);
+    let numbers = result_parts_of(result);
     let m = parts.message;
     let r = parts.reply;
-    let w = told.word;
+    let w = numbers.word;
     [
         parts.code,
         x.priority,
         x.parent,
         place,
         parts.awaited,
-        told.kind,
+        numbers.kind,
         (m.start % 256) as u8,
         (m.start / 256 % 256) as u8,
         (m.len % 256) as u8,
@@ -351,7 +351,7 @@ fn fields_of(x: Task, place: u8) -> [u8; RECORD]
         (r.start / 256 % 256) as u8,
         (r.len % 256) as u8,
         (r.len / 256 % 256) as u8,
-        told.from,
+        numbers.from,
         0,
         (w % 256) as u8,
         (w / 256 % 256) as u8,

@@ -1,8 +1,8 @@
 // A table as an image: a record for each slot, one after another.
 use crate::fields::PLACE;
 use crate::fields::RECORD;
-use crate::fields::entry_of;
 use crate::fields::record_of;
+use crate::fields::task_read;
 use kernel::numbers::ACCEPTED;
 use kernel::numbers::BAD_IMAGE;
 use kernel::numbers::BAD_TABLE;
@@ -11,16 +11,16 @@ use queue::Queue;
 use queue::numbering::FIRST_SEND;
 use queue::numbering::PLACES;
 use queue::numbering::QUEUES;
-use tid::sizes::SLOTS;
 use queue::wide;
 use rules::Checked;
+use rules::slots::active_if_ready;
 use rules::slots::good_slot;
-use rules::slots::idle;
 use rules::slots::single;
 use task::search::first_active;
 use task::search::used_slots;
 use task::standing::queue_of;
 use tid::mark_of;
+use tid::sizes::SLOTS;
 ghost use mathlib.Core.Path.{_≡_};
 ghost use Prim.Native.Nat.{_+_, _*_, _≤_, _<_, min, max};
 ghost use lib.ListN.{length};
@@ -30,7 +30,7 @@ ghost use Rattle.queue.specs.Numbering.{places};
 ghost use Rattle.queue.specs.Placed.{placedRow};
 ghost use Rattle.rules.specs.Fresh.{unusedTable};
 ghost use Rattle.image.specs.Record.{recordLength};
-ghost use Rattle.image.specs.Image.{reading, givenImage, readImage, stored, writeVerdict, written};
+ghost use Rattle.image.specs.Image.{reading, judgedImage, readImage, stored, writeVerdict, written};
 ghost use Rattle.image.specs.Exact.{decodedOf, checkedPlaced};
 
 // How long an image is.
@@ -86,7 +86,7 @@ fn decode(bytes: &[u8]) -> Decoded
     while s < SLOTS {
         let at = s * RECORD;
         let r = &bytes[at..at + RECORD];
-        let entry = entry_of(r);
+        let entry = task_read(r);
         let task = entry.task;
         exact &= entry.exact;
         table.tasks[s] = task;
@@ -169,7 +169,7 @@ fn check_placed(table: Table, bytes: &[u8]) -> Checked
     let queues = table.queues;
     let used = used_slots(tasks);
     let active = first_active(tasks);
-    let mut good = (1 <= used) & idle(queues, active) & single(queues);
+    let mut good = (1 <= used) & active_if_ready(queues, active) & single(queues);
     let mut s = 0;
     while s < SLOTS {
         let task = tasks[s];
@@ -185,8 +185,8 @@ fn check_placed(table: Table, bytes: &[u8]) -> Checked
 }
 
 // The table that the bytes give, with the verdict on them.
-pub fn given(bytes: &[u8]) -> Reading
-    ensures { λ r. ⌜ r ≡ givenImage slotCount (now (bytes .entry)) ⌝ }
+pub fn judged(bytes: &[u8]) -> Reading
+    ensures { λ r. ⌜ r ≡ judgedImage slotCount (now (bytes .entry)) ⌝ }
 {
     if bytes.len() != IMAGE {
         return refused(BAD_IMAGE);
@@ -210,7 +210,7 @@ pub fn given(bytes: &[u8]) -> Reading
 pub fn read(bytes: &[u8]) -> Reading
     ensures { λ r. ⌜ r ≡ readImage slotCount (now (bytes .entry)) ⌝ }
 {
-    let reading = given(bytes);
+    let reading = judged(bytes);
     if reading.verdict == BAD_TABLE {
         return refused(BAD_TABLE);
     }

@@ -3,8 +3,8 @@ use libc::STDIN_FILENO;
 use libc::STDOUT_FILENO;
 use lines::fresh_block;
 use lines::show_block;
-use tid::sizes::SLOTS;
 use tid::sizes::AREA;
+use tid::sizes::SLOTS;
 
 fn main() {
     let mut records = [0u8; 2048];

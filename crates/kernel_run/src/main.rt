@@ -14,8 +14,8 @@ use lines::Block;
 use lines::LONGEST;
 use lines::fresh_block;
 use lines::show_block;
-use tid::sizes::SLOTS;
 use tid::sizes::AREA;
+use tid::sizes::SLOTS;
 
 // The first task's priority.
 const FIRST: u32 = 16;

@@ -8,14 +8,14 @@ use lib.ListN.{length, take, drop, length-append}
 use lib.Seq.{sets-eq, take-at, length-take-le}
 use lib.Dec.{eqb}
 use borrow.Author.Tests.{lt-ltb, le-ltb, eq-eqb, ne-eqb}
-use Rattle.task.specs.declared.task.Outcome.the-variants.{Value, Fault}
+use Rattle.task.specs.declared.task.Result.the-variants.{Value, Fault}
 use Rattle.task.specs.Task.{firstNegative}
 use Rattle.task.specs.Result.{negated}
 use Rattle.kernel.specs.declared.table.Answer.{Answer}
 use Rattle.lines.specs.Text.{Appended, digits, decimal, signed}
 use Rattle.task.proofs.Tests.{chosen}
 use Rattle.image.specs.Call.{requestLength}
-use Rattle.lines.specs.Line.{verdictText, outcomeText, answerText, lineOf, longest, endLine}
+use Rattle.lines.specs.Line.{verdictText, resultText, answerText, lineOf, longest, endLine}
 use Rattle.lines.specs.Block.{endOf}
 
 digits-size : (k m n : ℕ) → n < 10 ^ suc m → length (digits k n) ≤ suc m
@@ -47,16 +47,16 @@ verdict-size v h = elim (decLt 0 v) [
   | no ge ↦ rw (eq-eqb v 0 (omega arith)) (omega arith)
 ]
 
-pub value-size : (from v : ℕ) → from < 256 → v < 2 ^ 32 → length (outcomeText (Value from v)) ≤ 17
-unfolding outcomeText
+pub value-size : (from v : ℕ) → from < 256 → v < 2 ^ 32 → length (resultText (Value from v)) ≤ 17
+unfolding resultText
 value-size from v h l =
     simp length-append (omega (arith, signed-size v l, decimal-size 2 from (omega arith)))
 
-pub fault-size : (f : ℕ) → length (outcomeText (Fault f)) ≤ 17
-unfolding outcomeText
+pub fault-size : (f : ℕ) → length (resultText (Fault f)) ≤ 17
+unfolding resultText
 fault-size f = omega (arith, signed-size (negated f) (omega arith))
 
-pub answer-size : (a : Answer) → a .verdict < 256 → a .next < 256 → length (outcomeText (a .outcome)) ≤ 17 → length (answerText a) ≤ 26
+pub answer-size : (a : Answer) → a .verdict < 256 → a .next < 256 → length (resultText (a .result)) ≤ 17 → length (answerText a) ≤ 26
 unfolding answerText
 answer-size a h l g =
     simp length-append (omega (arith, verdict-size (a .verdict) h, decimal-size 2 (a .next) (omega arith)))

@@ -3,7 +3,7 @@ use Prim.Native.Nat.{ℕ}
 use mathlib.Core.List.{List, [], _∷_, _++_}
 use lib.Dec.{eqb}
 use Rattle.queue.specs.Choose.{choose}
-use Rattle.task.specs.declared.task.Outcome.{Outcome}
+use Rattle.task.specs.declared.task.Result.{Result}
 use Rattle.task.specs.Result.{resultKind, resultWord, resultFrom}
 use Rattle.kernel.specs.declared.table.Answer.{Answer}
 use Rattle.kernel.specs.Numbers.{accepted, badRecord}
@@ -38,8 +38,8 @@ unfoldable pub verdictText : ℕ → List ℕ
 verdictText v = choose (eqb v accepted) ok (letterR ∷ decimal v)
 
 -- a minus for nothing; v, the value and from; e and the fault, a negative word
-unfoldable pub outcomeText : Outcome → List ℕ
-outcomeText o =
+unfoldable pub resultText : Result → List ℕ
+resultText o =
     choose (eqb (resultKind o) 0) (minus ∷ [])
     (choose (eqb (resultKind o) 1) (letterV ∷ space ∷ signed (resultWord o) ++ space ∷ decimal (resultFrom o))
     (letterE ∷ space ∷ signed (resultWord o)))
@@ -49,7 +49,7 @@ unfoldable pub answerText : Answer → List ℕ
 answerText a =
     verdictText (a .verdict)
     ++ space ∷ decimal (a .next)
-    ++ space ∷ outcomeText (a .outcome)
+    ++ space ∷ resultText (a .result)
 
 -- no line is longer than this
 abbrev pub longest : ℕ

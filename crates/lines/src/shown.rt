@@ -2,14 +2,14 @@
 ghost use Prim.Native.Nat.{_≤_};
 ghost use lib.ListN.{length};
 ghost use Rattle.lines.specs.Text.{Appended};
-ghost use Rattle.lines.specs.Line.{verdictText, outcomeText, answerText, lineOf, longest, endLine};
+ghost use Rattle.lines.specs.Line.{verdictText, resultText, answerText, lineOf, longest, endLine};
 use crate::text::put;
 use crate::text::put_decimal;
 use crate::text::put_signed;
 use kernel::numbers::ACCEPTED;
 use kernel::numbers::BAD_RECORD;
 use kernel::table::Answer;
-use task::task::Outcome;
+use task::task::Result;
 
 // No line is longer than this.
 pub const LONGEST: usize = 60;
@@ -26,8 +26,8 @@ fn put_verdict(out: &mut [u8], at: usize, verdict: u8) -> usize
 }
 
 fn put_value(out: &mut [u8], at: usize, from: u8, value: u32) -> usize
-    ensures { λ r. ⌜ Appended (now (out .entry)) at (outcomeText (Outcome.Value from value)) (now (out .exit)) r ⌝ }
-    ensures short { λ r. ⌜ length (outcomeText (Outcome.Value from value)) ≤ 17 ⌝ }
+    ensures { λ r. ⌜ Appended (now (out .entry)) at (resultText (Result.Value from value)) (now (out .exit)) r ⌝ }
+    ensures short { λ r. ⌜ length (resultText (Result.Value from value)) ≤ 17 ⌝ }
 {
     let a = put(&mut *out, at, b'v');
     let b = put(&mut *out, a, b' ');
@@ -37,21 +37,21 @@ fn put_value(out: &mut [u8], at: usize, from: u8, value: u32) -> usize
 }
 
 fn put_fault(out: &mut [u8], at: usize, fault: u8) -> usize
-    ensures { λ r. ⌜ Appended (now (out .entry)) at (outcomeText (Outcome.Fault fault)) (now (out .exit)) r ⌝ }
+    ensures { λ r. ⌜ Appended (now (out .entry)) at (resultText (Result.Fault fault)) (now (out .exit)) r ⌝ }
 {
     let a = put(&mut *out, at, b'e');
     let b = put(&mut *out, a, b' ');
     put_signed(&mut *out, b, std::num::wrapping_sub_u32(0, fault as u32))
 }
 
-fn put_outcome(out: &mut [u8], at: usize, outcome: Outcome) -> usize
-    ensures { λ r. ⌜ Appended (now (out .entry)) at (outcomeText outcome) (now (out .exit)) r ⌝ }
-    ensures short { λ r. ⌜ length (outcomeText outcome) ≤ 17 ⌝ }
+fn put_result(out: &mut [u8], at: usize, result: Result) -> usize
+    ensures { λ r. ⌜ Appended (now (out .entry)) at (resultText result) (now (out .exit)) r ⌝ }
+    ensures short { λ r. ⌜ length (resultText result) ≤ 17 ⌝ }
 {
-    match outcome {
-        Outcome::Nothing => put(&mut *out, at, b'-'),
-        Outcome::Value { from, value } => put_value(&mut *out, at, from, value),
-        Outcome::Fault(fault) => put_fault(&mut *out, at, fault),
+    match result {
+        Result::Nothing => put(&mut *out, at, b'-'),
+        Result::Value { from, value } => put_value(&mut *out, at, from, value),
+        Result::Fault(fault) => put_fault(&mut *out, at, fault),
     }
 }
 
@@ -59,12 +59,12 @@ fn put_answer(out: &mut [u8], at: usize, answer: Answer) -> usize
     ensures { λ r. ⌜ Appended (now (out .entry)) at (answerText answer) (now (out .exit)) r ⌝ }
     ensures short { λ r. ⌜ length (answerText answer) ≤ 26 ⌝ }
 {
-    let outcome = answer.outcome;
+    let result = answer.result;
     let a = put_verdict(&mut *out, at, answer.verdict);
     let b = put(&mut *out, a, b' ');
     let c = put_decimal(&mut *out, b, answer.next as u64);
     let d = put(&mut *out, c, b' ');
-    put_outcome(&mut *out, d, outcome)
+    put_result(&mut *out, d, result)
 }
 
 // The line of a step, which the caller has counted.

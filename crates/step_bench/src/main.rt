@@ -10,10 +10,10 @@ use kernel::numbers::ACCEPTED;
 use kernel::table::Table;
 use libc::STDIN_FILENO;
 use libc::STDOUT_FILENO;
-use tid::sizes::SLOTS;
 use rules::start;
 use step::proceed;
 use tid::sizes::AREA;
+use tid::sizes::SLOTS;
 
 // The first task's priority.
 const FIRST: u32 = 16;

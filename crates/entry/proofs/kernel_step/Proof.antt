@@ -61,13 +61,13 @@ abbrev begun : tie.After-decide-at → tie.Start
 begun p = opened (fitting p .before .before .before .before)
 
 good : (p : tie.After-decide-at)
-    → (isImage slotCount (image (begun p)) ≡ true) × (p .before .before .before .before .before .given .result ≡ reading (tableOf slotCount (image (begun p))) accepted)
+    → (isImage slotCount (image (begun p)) ≡ true) × (p .before .before .before .before .before .judged .result ≡ reading (tableOf slotCount (image (begun p))) accepted)
 good p =
     let met = p .before .before .before .before .before in
     let none = p .before .before .before .if5 .left in
-    let verdict = ap (λ (x : Reading). x .verdict) (met .given .ensures) in
+    let verdict = ap (λ (x : Reading). x .verdict) (met .judged .ensures) in
     let found = given-good slotCount (image (begun p)) (sized (fitting p .before)) (rw verdict at none) in
-    (found .0, met .given .ensures ∙ found .1)
+    (found .0, met .judged .ensures ∙ found .1)
 
 fit : (p : tie.After-decide-at) → unfit slotCount (image (begun p)) (areas (begun p)) (request (begun p)) ≡ accepted
 fit p =
@@ -138,8 +138,8 @@ returns-4 c =
     (unfit-areas slotCount (image start) (areas start) (request start) (answer start) (asked (passed .before)) (sized passed) (λ e. omega arith))
     (told .refuse3 .ensures)
 
-given-requires : tie.Need-given-requires
-given-requires c κs = search needs
+judged-requires : tie.Need-judged-requires
+judged-requires c κs = search needs
 
 refuse-requires-4 : tie.Need-refuse-requires-4
 refuse-requires-4 c κs = search needs
@@ -157,7 +157,7 @@ returns-5 c =
     let met = here .before .before in
     let passed = met .before .before in
     let start = opened (passed .before .before .before .before) in
-    let bad = given-bad slotCount (image start) (sized (passed .before)) (rw (ap (λ (x : Reading). x .verdict) (met .given .ensures)) at (here .if5 .taken)) in
+    let bad = given-bad slotCount (image start) (sized (passed .before)) (rw (ap (λ (x : Reading). x .verdict) (met .judged .ensures)) at (here .if5 .taken)) in
     unfit-call slotCount (image start) (areas start) (request start) (answer start) (room (passed .before .before .before)) badTable (omega arith)
     (unfit-table slotCount (image start) (areas start) (request start) (answer start) (asked (passed .before .before)) (sized (passed .before)) (lent passed) bad)
     (told .refuse4 .ensures)
@@ -241,7 +241,7 @@ kernel-step-spec =
     refuse-requires-3
     same-length-3
     returns-4
-    given-requires
+    judged-requires
     refuse-requires-4
     same-length-4
     same-length-5

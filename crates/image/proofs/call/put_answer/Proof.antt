@@ -8,8 +8,8 @@ use Rattle.image.proofs.Made.{answer-made}
 use Rattle.image.proofs.call.put_answer.Statement.{statement}
 use Rattle.image.proofs.call.put_answer.Tie as tie
 
-told-of-requires : tie.Need-told-of-requires
-told-of-requires c κs = search needs
+result-parts-of-requires : tie.Need-result-parts-of-requires
+result-parts-of-requires c κs = search needs
 
 cast-put-word : tie.Need-cast-put-word
 cast-put-word c = search needs
@@ -51,7 +51,7 @@ returns c = let w5 = c .before .before in
     let start = told .before .before .before in
     let whole : length (start .args .out .now) ≡ answerLength = told .before .if1 .taken in
     rw (eq-eqb _ answerLength whole)
-    (answer-made (start .args .answer) (start .args .out .now) _ _ _ _ _ _ whole (told .told-of .ensures)
+    (answer-made (start .args .answer) (start .args .out .now) _ _ _ _ _ _ whole (told .result-parts-of .ensures)
     (w1 .put-word .ensures) (w2 .put-word2 .ensures) (w3 .put-word3 .ensures) (w4 .put-word4 .ensures) (w5 .put-word5 .ensures))
 
 returns-2 : tie.Need-returns-2
@@ -61,7 +61,7 @@ pub put-answer-spec : {M : Type 1} → statement M
 put-answer-spec =
     tie.close
     (tie.spec
-    told-of-requires
+    result-parts-of-requires
     cast-put-word
     put-word-requires
     cast-put-word-2

@@ -7,8 +7,8 @@ use Rattle.image.proofs.fields.fields_of.Tie as tie
 parts-of-requires : tie.Need-parts-of-requires
 parts-of-requires c κs = search needs
 
-told-of-requires : tie.Need-told-of-requires
-told-of-requires c κs = search needs
+result-parts-of-requires : tie.Need-result-parts-of-requires
+result-parts-of-requires c κs = search needs
 
 cast-t11 : tie.Need-cast-t11
 cast-t11 c = search needs
@@ -49,14 +49,14 @@ cast-t43 c = search needs
 returns : tie.Need-returns
 returns c = let told = c .before .before .before .before .before .before .before .before .before .before in
     let start = told .before .before in
-    record-made (start .args .x) (start .args .place) _ _ (told .before .parts-of .ensures) (told .told-of .ensures)
+    record-made (start .args .x) (start .args .place) _ _ (told .before .parts-of .ensures) (told .result-parts-of .ensures)
 
 pub fields-of-spec : {M : Type 1} → statement M
 fields-of-spec =
     tie.close
     (tie.spec
     parts-of-requires
-    told-of-requires
+    result-parts-of-requires
     cast-t11
     cast-t14
     cast-t16

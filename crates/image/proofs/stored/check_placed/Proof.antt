@@ -51,8 +51,8 @@ used-slots-requires c κs = search needs
 first-active-requires : tie.Need-first-active-requires Inv-loop μ-loop
 first-active-requires c κs = search needs
 
-idle-requires : tie.Need-idle-requires Inv-loop μ-loop
-idle-requires c κs = search needs
+active-if-ready-requires : tie.Need-active-if-ready-requires Inv-loop μ-loop
+active-if-ready-requires c κs = search needs
 
 single-requires : tie.Need-single-requires Inv-loop μ-loop
 single-requires c κs = search needs
@@ -128,7 +128,7 @@ loop-again c =
       omega arith,
       stood
           ∙ and-assoc (at .loop .good) (held .good-slot .result) _
-          ∙ asked-more s (asks (t .tasks) (t .queues) bytes used (found .first-active .result)) (leb 1 used && alone .before .idle .result && alone .single .result) (at .loop .inv .1) (rw (held .good-slot .ensures, c .before .queue-of .ensures)),
+          ∙ asked-more s (asks (t .tasks) (t .queues) bytes used (found .first-active .result)) (leb 1 used && alone .before .active-if-ready .result && alone .single .result) (at .loop .inv .1) (rw (held .good-slot .ensures, c .before .queue-of .ensures)),
     )
 
 returns : tie.Need-returns Inv-loop μ-loop
@@ -145,7 +145,7 @@ returns c =
     let active = found .first-active .ensures ∙ active-found slotCount t size in
     let end : at .loop .s ≡ slotCount = omega arith in
     let good : at .loop .good ≡ goodPlaced t (placeIn bytes) =
-    at .loop .inv .1 ∙ rw (end, alone .single .ensures, alone .before .idle .ensures, used, active, size) in
+    at .loop .inv .1 ∙ rw (end, alone .single .ensures, alone .before .active-if-ready .ensures, used, active, size) in
     λ i. record { good = good i; active = active i }
 
 pub check-placed-spec : {M : Type 1} → statement M
@@ -156,7 +156,7 @@ check-placed-spec =
     μ-loop
     used-slots-requires
     first-active-requires
-    idle-requires
+    active-if-ready-requires
     single-requires
     loop-holds
     mul-task

@@ -15,7 +15,7 @@ use Rattle.queue.proofs.Below.{all-more}
 use Rattle.kernel.specs.declared.table.Table.{Table}
 use Rattle.kernel.specs.Table.{queueAt, withTask, withQueue}
 use Rattle.kernel.specs.Shape.{Shaped}
-use Rattle.image.specs.declared.fields.Entry.{Entry}
+use Rattle.image.specs.declared.fields.TaskRead.{TaskRead}
 use Rattle.image.specs.Bytes.{recordAt}
 use Rattle.image.specs.Record.{recordLength, placeFrom}
 use Rattle.image.specs.Image.{tableUpTo}
@@ -62,8 +62,8 @@ part-r-start c = search needs
 part-r-end : tie.Need-part-r-end Inv-loop μ-loop
 part-r-end c = search needs
 
-entry-of-requires : tie.Need-entry-of-requires Inv-loop μ-loop
-entry-of-requires c κs = search needs
+task-read-requires : tie.Need-task-read-requires Inv-loop μ-loop
+task-read-requires c κs = search needs
 
 mul-task : tie.Need-mul-task Inv-loop μ-loop
 mul-task c = search needs
@@ -109,15 +109,15 @@ loop-again c =
     let s : ℕ = at .loop .s in
     let t : Table = at .loop .table in
     let shape : Shaped slotCount t = rw (at .loop .inv .1) (table-shaped slotCount bytes s) in
-    let x = entry .entry-of .result .task in
+    let x = entry .task-read .result .task in
     let k : ℕ = c .before .queue-of .result in
     let put : c .if1 .table ≡ withQueue (withTask t s x) k (placedRow (queueAt t k) (placeFrom (lent bytes s)) (markOf s)) =
     ⊎-elim (λ own. own .5 ∙ ap (withQueue (withTask t s x) k) (own .4 .ensures ∙ ap (placedRow (queueAt t k) (placeFrom (lent bytes s))) (own .3 .ensures ∙ ap markOf (in-byte s (omega arith)))))
     (λ other. none-queued (withTask t s x) (c .if1 .table) k _ (omega (arith, shape .queues .count, other .0 .left)) (other .1))
     (c .if1 .came) in (
       omega arith,
-      table-more slotCount bytes (lent bytes s) s t (c .if1 .table) x k (part bytes s) (at .loop .inv .1) (shape .tasks) (ap (λ (y : Entry). y .task) (entry .entry-of .ensures)) (c .before .queue-of .ensures) put,
-      rw (all-more, at .loop .inv .2, ap (λ (e : Entry). e .exact) (entry .entry-of .ensures), part bytes s),
+      table-more slotCount bytes (lent bytes s) s t (c .if1 .table) x k (part bytes s) (at .loop .inv .1) (shape .tasks) (ap (λ (y : TaskRead). y .task) (entry .task-read .ensures)) (c .before .queue-of .ensures) put,
+      rw (all-more, at .loop .inv .2, ap (λ (e : TaskRead). e .exact) (entry .task-read .ensures), part bytes s),
     )
 
 returns : tie.Need-returns Inv-loop μ-loop
@@ -142,7 +142,7 @@ decode-spec =
     sub-r
     part-r-start
     part-r-end
-    entry-of-requires
+    task-read-requires
     mul-task
     element-set-from-task
     queue-of-requires

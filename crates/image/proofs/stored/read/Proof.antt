@@ -7,8 +7,8 @@ use Rattle.image.proofs.Made.{read-given, read-broken}
 use Rattle.image.proofs.stored.read.Statement.{statement}
 use Rattle.image.proofs.stored.read.Tie as tie
 
-given-requires : tie.Need-given-requires
-given-requires c κs = search needs
+judged-requires : tie.Need-judged-requires
+judged-requires c κs = search needs
 
 refused-requires : tie.Need-refused-requires
 refused-requires c κs = search needs
@@ -18,15 +18,15 @@ returns c =
     let here = c .before in
     let met = here .before .before in
     let bytes = met .before .before .args .bytes .now in
-    let verdict = ap (λ (x : Reading). x .verdict) (met .given .ensures) in
+    let verdict = ap (λ (x : Reading). x .verdict) (met .judged .ensures) in
     c .refused .ensures ∙ read-broken slotCount bytes (sym verdict ∙ here .if1 .taken)
 
 returns-2 : tie.Need-returns-2
 returns-2 c =
     let met = c .before .before in
     let bytes = met .before .before .args .bytes .now in
-    let verdict = ap (λ (x : Reading). x .verdict) (met .given .ensures) in
-    met .given .ensures ∙ read-given slotCount bytes (λ e. c .if1 .left (verdict ∙ e))
+    let verdict = ap (λ (x : Reading). x .verdict) (met .judged .ensures) in
+    met .judged .ensures ∙ read-given slotCount bytes (λ e. c .if1 .left (verdict ∙ e))
 
 pub read-spec : {M : Type 1} → statement M
-read-spec = tie.close (tie.spec given-requires refused-requires returns returns-2)
+read-spec = tie.close (tie.spec judged-requires refused-requires returns returns-2)

@@ -21,8 +21,8 @@ put-decimal-requires c κs = search needs
 put-requires-2 : tie.Need-put-requires-2
 put-requires-2 c κs = search needs
 
-put-outcome-requires : tie.Need-put-outcome-requires
-put-outcome-requires c κs = search needs
+put-result-requires : tie.Need-put-result-requires
+put-result-requires c κs = search needs
 
 same-length : tie.Need-same-length
 same-length c = search needs
@@ -36,9 +36,9 @@ returns c =
     let b = d .before .before .before .before .before in
     let a = b .before .before .before .before in
     let next = then (b .put .ensures) (d .put-decimal .ensures) in
-    let outcome = then (e .put2 .ensures) (f .put-outcome .ensures .0) in
+    let result = then (e .put2 .ensures) (f .put-result .ensures .0) in
     let answer = a .before .before .before .args .answer in
-    (then (then (a .put-verdict .ensures) next) outcome, answer-size answer (search needs) (search needs) (f .put-outcome .ensures .1))
+    (then (then (a .put-verdict .ensures) next) result, answer-size answer (search needs) (search needs) (f .put-result .ensures .1))
 
 pub put-answer-spec : {M : Type 1} → statement M
 put-answer-spec =
@@ -49,6 +49,6 @@ put-answer-spec =
     cast-put-decimal
     put-decimal-requires
     put-requires-2
-    put-outcome-requires
+    put-result-requires
     same-length
     returns)

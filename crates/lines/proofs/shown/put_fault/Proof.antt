@@ -5,7 +5,7 @@ use native.Mathlib.Omega.{arith}
 use borrow.Author.Needs.{needs}
 use Rattle.task.specs.Result.{negated}
 use Rattle.lines.specs.Text.{signed}
-use Rattle.lines.specs.Line.{outcomeText}
+use Rattle.lines.specs.Line.{resultText}
 use Rattle.lines.proofs.Joined.{then, known-as}
 use Rattle.lines.proofs.shown.put_fault.Statement.{statement}
 use Rattle.lines.proofs.shown.put_fault.Tie as tie
@@ -26,7 +26,7 @@ same-length : tie.Need-same-length
 same-length c = search needs
 
 returns : tie.Need-returns
-unfolding outcomeText
+unfolding resultText
 returns c =
     let e = c .before .before in
     let w = e .before in

@@ -1,7 +1,7 @@
 -- `shown::put_value`: five texts, one behind the other.
 use borrow.Author.Needs.{needs}
 use Rattle.lines.proofs.Joined.{then}
-use Rattle.lines.specs.Line.{outcomeText}
+use Rattle.lines.specs.Line.{resultText}
 use Rattle.lines.proofs.Lengths.{value-size}
 use Rattle.lines.proofs.shown.put_value.Statement.{statement}
 use Rattle.lines.proofs.shown.put_value.Tie as tie
@@ -25,7 +25,7 @@ same-length : tie.Need-same-length
 same-length c = search needs
 
 returns : tie.Need-returns
-unfolding outcomeText
+unfolding resultText
 returns c =
     let f = c .before .before in
     let e = f .before .before .before .before in

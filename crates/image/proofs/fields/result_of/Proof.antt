@@ -1,0 +1,38 @@
+-- `image::fields::result_of` meets its contract, test by test.
+use mathlib.Core.Path.{ap}
+use native.Mathlib.Omega.{arith}
+use borrow.Author.Tests.{lt-ltb, le-ltb, ne-eqb}
+use borrow.Author.Needs.{needs}
+use Rattle.task.specs.declared.task.Result.the-variants.{Fault}
+use Rattle.image.proofs.fields.result_of.Statement.{statement}
+use Rattle.image.proofs.fields.result_of.Tie as tie
+
+returns : tie.Need-returns
+returns c = rw (c .if1 .taken)
+
+sub-if3 : tie.Need-sub-if3
+sub-if3 c = search needs
+
+sub-t7 : tie.Need-sub-t7
+sub-t7 c = search needs
+
+cast-t8 : tie.Need-cast-t8
+cast-t8 c = search needs
+
+add-t9 : tie.Need-add-t9
+add-t9 c = search needs
+
+returns-2 : tie.Need-returns-2
+returns-2 c = let word = c .before .before .before .before .before .args .numbers .word in
+    rw (c .before .if2 .taken, lt-ltb 4294967292 word (c .if3 .taken)) (ap Fault (omega arith))
+
+returns-3 : tie.Need-returns-3
+returns-3 c = rw (c .before .if2 .taken, le-ltb 4294967292 (c .before .before .before .before .before .args .numbers .word) (c .if3 .left))
+
+returns-4 : tie.Need-returns-4
+returns-4 c = let code = c .before .before .before .before .args .numbers .kind in
+    rw (ne-eqb code 1 (c .before .before .if1 .left), ne-eqb code 2 (c .if2 .left))
+
+pub result-of-spec : {M : Type 1} → statement M
+result-of-spec =
+    tie.close (tie.spec returns sub-if3 sub-t7 cast-t8 add-t9 returns-2 returns-3 returns-4)

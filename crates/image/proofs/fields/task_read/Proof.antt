@@ -1,0 +1,109 @@
+-- `image::fields::task_read` meets its contract, part by part.
+use Prim.Native.Nat.{ℕ}
+use mathlib.Core.Path.{_≡_, refl, ap}
+use mathlib.Core.Bool.{Bool, true, false, _&&_, and-false}
+use mathlib.Core.List.{List}
+use lib.Dec.{eqb}
+use borrow.Author.Needs.{needs}
+use Rattle.task.specs.declared.task.Result.{Result}
+use Rattle.image.specs.declared.fields.Parts.{Parts}
+use Rattle.image.specs.declared.fields.Stated.{Stated}
+use Rattle.image.specs.declared.fields.ResultParts.{ResultParts}
+use Rattle.image.specs.ResultParts.{resultPartsOf}
+use Rattle.image.specs.Record.{atState, atPriority, atParent, atPlace, atSpare, byteIn, partsOf, partsIn, resultPartsIn, stateFrom, resultOf, taskFrom}
+use Rattle.image.specs.Exact.{sameParts, sameResultParts, exactPlace, statedFrom, exactRecord, taskRead}
+use Rattle.image.proofs.Made.{entry-made}
+use Rattle.image.proofs.fields.task_read.Statement.{statement}
+use Rattle.image.proofs.fields.task_read.Tie as tie
+
+-- the place is asked with the state, and the spare byte last
+regrouped : (a b c d : Bool) → ((a && b) && c && d) ≡ (a && c && (b && d))
+regrouped true true c d = refl
+regrouped true false c d = rw and-false
+regrouped false b c d = refl
+
+-- what a used record gives, from its state with its place
+entry-stated : (r : List ℕ) (parts : Parts) (told : ResultParts) (stated : Stated) (result : Result) (q : Bool)
+    → (byteIn r atState ≡ 0 → ⊥) → parts ≡ partsIn r → told ≡ resultPartsIn r → stated ≡ statedFrom parts (byteIn r atPlace)
+    → result ≡ resultOf told → q ≡ sameResultParts (resultPartsOf (resultOf told)) told
+    → record {
+      task = record { state = stated .state; priority = byteIn r atPriority; parent = byteIn r atParent; result = result };
+      exact = stated .exact && q && eqb (byteIn r atSpare) 0;
+    } ≡ taskRead r
+entry-stated r parts told stated result q some a b c d e =
+    let same = sameParts (partsOf (stateFrom parts)) parts in
+    let placed = exactPlace (parts .code) (byteIn r atPlace) in
+    let spare = eqb (byteIn r atSpare) 0 in
+    let rest = ap (λ (p : Parts). exactPlace (p .code) (byteIn r atPlace) && spare) a in
+    rw (c, regrouped same placed q spare)
+    (entry-made r parts told (stateFrom parts) result same q (placed && spare) some a b refl d refl e rest)
+
+shared-slice-read-if1 : tie.Need-shared-slice-read-if1
+shared-slice-read-if1 c = search needs
+
+no-task-requires : tie.Need-no-task-requires
+no-task-requires c κs = search needs
+
+blank-requires : tie.Need-blank-requires
+blank-requires c κs = search needs
+
+returns : tie.Need-returns
+unfolding taskFrom exactRecord
+returns c = rw (c .before .before .if1 .taken) (λ i. record { task = c .before .no-task .ensures i; exact = c .blank .ensures i })
+
+parts-in-requires : tie.Need-parts-in-requires
+parts-in-requires c κs = search needs
+
+result-parts-in-requires : tie.Need-result-parts-in-requires
+result-parts-in-requires c κs = search needs
+
+shared-slice-read-stated-from : tie.Need-shared-slice-read-stated-from
+shared-slice-read-stated-from c = search needs
+
+stated-from-requires : tie.Need-stated-from-requires
+stated-from-requires c κs = search needs
+
+result-of-requires : tie.Need-result-of-requires
+result-of-requires c κs = search needs
+
+shared-slice-read-t10 : tie.Need-shared-slice-read-t10
+shared-slice-read-t10 c = search needs
+
+shared-slice-read-exact : tie.Need-shared-slice-read-exact
+shared-slice-read-exact c = search needs
+
+exact-result-requires : tie.Need-exact-result-requires
+exact-result-requires c κs = search needs
+
+shared-slice-read-exact-2 : tie.Need-shared-slice-read-exact-2
+shared-slice-read-exact-2 c = search needs
+
+returns-2 : tie.Need-returns-2
+returns-2 c = let asked = c .before .before in
+    let from = asked .before .before .before in
+    let read = from .before .before .before in
+    entry-stated (read .before .before .before .before .before .args .r .now) _ _ _ _ _ (read .before .before .if1 .left)
+    (read .before .parts-in .ensures)
+    (read .result-parts-in .ensures)
+    (from .before .stated-from .ensures)
+    (from .result-of .ensures)
+    (asked .exact-result .ensures)
+
+pub task-read-spec : {M : Type 1} → statement M
+task-read-spec =
+    tie.close
+    (tie.spec
+    shared-slice-read-if1
+    no-task-requires
+    blank-requires
+    returns
+    parts-in-requires
+    result-parts-in-requires
+    shared-slice-read-stated-from
+    stated-from-requires
+    result-of-requires
+    shared-slice-read-t10
+    shared-slice-read-exact
+    exact-result-requires
+    shared-slice-read-exact-2
+    returns-2)

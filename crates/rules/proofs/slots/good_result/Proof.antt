@@ -1,0 +1,37 @@
+-- `good_result`: an arm for each case of `goodResult`.
+use borrow.Author.Needs.{needs}
+use Rattle.rules.proofs.slots.good_result.Statement.{statement}
+use Rattle.rules.proofs.slots.good_result.Tie as tie
+
+enum-told : tie.Need-enum-told
+enum-told c = search needs
+
+enum-known-result : tie.Need-enum-known-result
+enum-known-result c = search needs
+
+wide-requires : tie.Need-wide-requires
+wide-requires c κs = search needs
+
+enum-known-result-2 : tie.Need-enum-known-result-2
+enum-known-result-2 c = search needs
+
+returns : tie.Need-returns
+returns c = search needs
+
+returns-2 : tie.Need-returns-2
+returns-2 c = rw (c .wide .ensures, c .before .before .result .given .1)
+
+returns-3 : tie.Need-returns-3
+returns-3 c = rw (c .before .result2 .given .1)
+
+pub good-result-spec : {M : Type 1} → statement M
+good-result-spec =
+    tie.close
+    (tie.spec
+    enum-told
+    enum-known-result
+    wide-requires
+    enum-known-result-2
+    returns
+    returns-2
+    returns-3)
