@@ -79,19 +79,10 @@ fit p =
 decided : (p : tie.After-decide-at) → p .decide-at .result ≡ decide (tableOf slotCount (image (begun p))) (requestFrom (request (begun p)))
 decided p = decided-read slotCount (image (begun p)) (good p .1) (p .before .request-from .ensures) (p .decide-at .ensures)
 
-cast-result : tie.Need-cast-result
-cast-result c = search needs
-
 returns : tie.Need-returns
 returns c =
     let start = opened (c .before) in
     wrong-answer slotCount (image start) (areas start) (request start) (answer start) (λ e. omega arith)
-
-refuse-requires : tie.Need-refuse-requires
-refuse-requires c κs = search needs
-
-same-length : tie.Need-same-length
-same-length c = search needs
 
 returns-2 : tie.Need-returns-2
 returns-2 c =
@@ -103,12 +94,6 @@ returns-2 c =
     (unfit-record slotCount (image start) (areas start) (request start) (answer start) (λ e. omega arith))
     (told .refuse .ensures)
 
-refuse-requires-2 : tie.Need-refuse-requires-2
-refuse-requires-2 c κs = search needs
-
-same-length-2 : tie.Need-same-length-2
-same-length-2 c = search needs
-
 returns-3 : tie.Need-returns-3
 returns-3 c =
     let told = c .before .before in
@@ -119,15 +104,6 @@ returns-3 c =
     (unfit-image slotCount (image start) (areas start) (request start) (answer start) (asked passed) (λ e. omega arith))
     (told .refuse2 .ensures)
 
-mul-if4 : tie.Need-mul-if4
-mul-if4 c = search needs
-
-refuse-requires-3 : tie.Need-refuse-requires-3
-refuse-requires-3 c κs = search needs
-
-same-length-3 : tie.Need-same-length-3
-same-length-3 c = search needs
-
 returns-4 : tie.Need-returns-4
 returns-4 c =
     let told = c .before .before in
@@ -137,18 +113,6 @@ returns-4 c =
     unfit-call slotCount (image start) (areas start) (request start) (answer start) (room (passed .before .before)) badAreas (omega arith)
     (unfit-areas slotCount (image start) (areas start) (request start) (answer start) (asked (passed .before)) (sized passed) (λ e. omega arith))
     (told .refuse3 .ensures)
-
-judged-requires : tie.Need-judged-requires
-judged-requires c κs = search needs
-
-refuse-requires-4 : tie.Need-refuse-requires-4
-refuse-requires-4 c κs = search needs
-
-same-length-4 : tie.Need-same-length-4
-same-length-4 c = search needs
-
-same-length-5 : tie.Need-same-length-5
-same-length-5 c = search needs
 
 returns-5 : tie.Need-returns-5
 returns-5 c =
@@ -162,24 +126,6 @@ returns-5 c =
     (unfit-table slotCount (image start) (areas start) (request start) (answer start) (asked (passed .before .before)) (sized (passed .before)) (lent passed) bad)
     (told .refuse4 .ensures)
 
-request-from-requires : tie.Need-request-from-requires
-request-from-requires c κs = search needs
-
-decide-at-requires : tie.Need-decide-at-requires
-decide-at-requires c κs = search needs
-
-put-answer-requires : tie.Need-put-answer-requires
-put-answer-requires c κs = search needs
-
-cast-result-2 : tie.Need-cast-result-2
-cast-result-2 c = search needs
-
-same-length-6 : tie.Need-same-length-6
-same-length-6 c = search needs
-
-same-length-7 : tie.Need-same-length-7
-same-length-7 c = search needs
-
 returns-6 : tie.Need-returns-6
 returns-6 c =
     let put = c .before .before .before in
@@ -189,27 +135,6 @@ returns-6 c =
     let start = opened (passed .before .before .before .before) in
     refused-call slotCount (image start) (areas start) (request start) (answer start) (room (passed .before .before .before)) (made .decide-at .result)
     (fit made) (decided made) (here .if6 .taken) (put .put-answer .ensures)
-
-apply-requires : tie.Need-apply-requires
-apply-requires c κs = search needs
-
-store-requires : tie.Need-store-requires
-store-requires c κs = search needs
-
-put-answer-requires-2 : tie.Need-put-answer-requires-2
-put-answer-requires-2 c κs = search needs
-
-cast-result-3 : tie.Need-cast-result-3
-cast-result-3 c = search needs
-
-same-length-8 : tie.Need-same-length-8
-same-length-8 c = search needs
-
-same-length-9 : tie.Need-same-length-9
-same-length-9 c = search needs
-
-same-length-10 : tie.Need-same-length-10
-same-length-10 c = search needs
 
 returns-7 : tie.Need-returns-7
 returns-7 c =
@@ -229,35 +154,35 @@ pub kernel-step-spec : {M : Type 1} → statement M
 kernel-step-spec =
     tie.close
     (tie.spec
-    cast-result
+    (λ c. search needs)
     returns
-    refuse-requires
-    same-length
+    (λ c κs. search needs)
+    (λ c. search needs)
     returns-2
-    refuse-requires-2
-    same-length-2
+    (λ c κs. search needs)
+    (λ c. search needs)
     returns-3
-    mul-if4
-    refuse-requires-3
-    same-length-3
+    (λ c. search needs)
+    (λ c κs. search needs)
+    (λ c. search needs)
     returns-4
-    judged-requires
-    refuse-requires-4
-    same-length-4
-    same-length-5
+    (λ c κs. search needs)
+    (λ c κs. search needs)
+    (λ c. search needs)
+    (λ c. search needs)
     returns-5
-    request-from-requires
-    decide-at-requires
-    put-answer-requires
-    cast-result-2
-    same-length-6
-    same-length-7
+    (λ c κs. search needs)
+    (λ c κs. search needs)
+    (λ c κs. search needs)
+    (λ c. search needs)
+    (λ c. search needs)
+    (λ c. search needs)
     returns-6
-    apply-requires
-    store-requires
-    put-answer-requires-2
-    cast-result-3
-    same-length-8
-    same-length-9
-    same-length-10
+    (λ c κs. search needs)
+    (λ c κs. search needs)
+    (λ c κs. search needs)
+    (λ c. search needs)
+    (λ c. search needs)
+    (λ c. search needs)
+    (λ c. search needs)
     returns-7)

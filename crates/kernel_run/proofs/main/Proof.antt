@@ -7,18 +7,9 @@ use Rattle.rules.proofs.Fresh.{fresh-good}
 use Rattle.kernel_run.proofs.main.Statement.{statement}
 use Rattle.kernel_run.proofs.main.Tie as tie
 
-fresh-block-requires : tie.Need-fresh-block-requires
-fresh-block-requires c κs = search needs
-
-slice-aggregate-run : tie.Need-slice-aggregate-run
-slice-aggregate-run c = search needs
-
 run-requires : tie.Need-run-requires
 run-requires c κs =
     rw (c .before .fresh-block .ensures) (facts-good slotCount _ (fresh-good slotCount 16 (omega arith) (omega arith)))
 
-returns : tie.Need-returns
-returns c = search needs
-
 pub main-spec : {M : Type 1} → statement M
-main-spec = tie.close (tie.spec fresh-block-requires slice-aggregate-run run-requires returns)
+main-spec = tie.close (tie.spec (λ c κs. search needs) (λ c. search needs) run-requires (λ c. search needs))

@@ -4,15 +4,6 @@ use borrow.Author.Needs.{needs}
 use Rattle.kernel_run.proofs.shown.Statement.{statement}
 use Rattle.kernel_run.proofs.shown.Tie as tie
 
-show-block-requires : tie.Need-show-block-requires
-show-block-requires c κs = search needs
-
-same-length : tie.Need-same-length
-same-length c = search needs
-
-same-length-2 : tie.Need-same-length-2
-same-length-2 c = search needs
-
 returns : tie.Need-returns
 returns c =
     let done = c .before .before .before .before in
@@ -21,4 +12,4 @@ returns c =
     (good (asked .0), (whole (asked .1) (asked .2), omega (arith, made .shown .ended, asked .1)))
 
 pub shown-spec : {M : Type 1} → statement M
-shown-spec = tie.close (tie.spec show-block-requires same-length same-length-2 returns)
+shown-spec = tie.close (tie.spec (λ c κs. search needs) (λ c. search needs) (λ c. search needs) returns)

@@ -15,9 +15,6 @@ abbrev μ-loop : tie.MeasureT-loop
 loop-holds : tie.Need-loop-holds Inv-loop μ-loop
 loop-holds c = omega arith
 
-write-state-requires : tie.Need-write-state-requires Inv-loop μ-loop
-write-state-requires c κs = search needs
-
 add-s : tie.Need-add-s Inv-loop μ-loop
 add-s c = omega arith
 
@@ -27,10 +24,7 @@ loop-less c = omega arith
 loop-again : tie.Need-loop-again Inv-loop μ-loop
 loop-again c = omega arith
 
-returns : tie.Need-returns Inv-loop μ-loop
-returns c = search needs
-
 pub write-states-spec : {M : Type 1} → statement M
 write-states-spec =
     tie.close
-    (tie.spec Inv-loop μ-loop loop-holds write-state-requires add-s loop-less loop-again returns)
+    (tie.spec Inv-loop μ-loop loop-holds (λ c κs. search needs) add-s loop-less loop-again (λ c. search needs))

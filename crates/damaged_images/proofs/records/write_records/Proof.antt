@@ -14,20 +14,11 @@ abbrev μ-loop : tie.MeasureT-loop
 loop-holds : tie.Need-loop-holds Inv-loop μ-loop
 loop-holds c = tt
 
-write-record-requires : tie.Need-write-record-requires Inv-loop μ-loop
-write-record-requires c κs = search needs
-
-add-tid : tie.Need-add-tid Inv-loop μ-loop
-add-tid c = search needs
-
 loop-less : tie.Need-loop-less Inv-loop μ-loop
 loop-less c = omega arith
 
 loop-again : tie.Need-loop-again Inv-loop μ-loop
 loop-again c = tt
-
-returns : tie.Need-returns Inv-loop μ-loop
-returns c = search needs
 
 pub write-records-spec : {M : Type 1} → statement M
 write-records-spec =
@@ -36,8 +27,8 @@ write-records-spec =
     Inv-loop
     μ-loop
     loop-holds
-    write-record-requires
-    add-tid
+    (λ c κs. search needs)
+    (λ c. search needs)
     loop-less
     loop-again
-    returns)
+    (λ c. search needs))

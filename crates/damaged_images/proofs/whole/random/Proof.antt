@@ -13,29 +13,8 @@ Inv-loop bytes₀ x₀ at₀ bytes x at = length bytes ≡ 640
 abbrev μ-loop : tie.MeasureT-loop
 μ-loop bytes₀ x₀ at₀ bytes x at = 640 - at
 
-loop-holds : tie.Need-loop-holds Inv-loop μ-loop
-loop-holds c = search needs
-
-drawn-requires : tie.Need-drawn-requires Inv-loop μ-loop
-drawn-requires c κs = search needs
-
-cast-bytes : tie.Need-cast-bytes Inv-loop μ-loop
-cast-bytes c = search needs
-
-array-write-bytes : tie.Need-array-write-bytes Inv-loop μ-loop
-array-write-bytes c = search needs
-
-add-at : tie.Need-add-at Inv-loop μ-loop
-add-at c = search needs
-
 loop-less : tie.Need-loop-less Inv-loop μ-loop
 loop-less c = omega arith
-
-loop-again : tie.Need-loop-again Inv-loop μ-loop
-loop-again c = search needs
-
-returns : tie.Need-returns Inv-loop μ-loop
-returns c = search needs
 
 pub random-spec : {M : Type 1} → statement M
 random-spec =
@@ -43,11 +22,11 @@ random-spec =
     (tie.spec
     Inv-loop
     μ-loop
-    loop-holds
-    drawn-requires
-    cast-bytes
-    array-write-bytes
-    add-at
+    (λ c. search needs)
+    (λ c κs. search needs)
+    (λ c. search needs)
+    (λ c. search needs)
+    (λ c. search needs)
     loop-less
-    loop-again
-    returns)
+    (λ c. search needs)
+    (λ c. search needs))

@@ -8,39 +8,6 @@ use Rattle.image.proofs.Made.{answer-made}
 use Rattle.image.proofs.call.put_answer.Statement.{statement}
 use Rattle.image.proofs.call.put_answer.Tie as tie
 
-result-parts-of-requires : tie.Need-result-parts-of-requires
-result-parts-of-requires c κs = search needs
-
-cast-put-word : tie.Need-cast-put-word
-cast-put-word c = search needs
-
-put-word-requires : tie.Need-put-word-requires
-put-word-requires c κs = search needs
-
-cast-put-word-2 : tie.Need-cast-put-word-2
-cast-put-word-2 c = search needs
-
-put-word-requires-2 : tie.Need-put-word-requires-2
-put-word-requires-2 c κs = search needs
-
-cast-put-word-3 : tie.Need-cast-put-word-3
-cast-put-word-3 c = search needs
-
-put-word-requires-3 : tie.Need-put-word-requires-3
-put-word-requires-3 c κs = search needs
-
-put-word-requires-4 : tie.Need-put-word-requires-4
-put-word-requires-4 c κs = search needs
-
-cast-put-word-4 : tie.Need-cast-put-word-4
-cast-put-word-4 c = search needs
-
-put-word-requires-5 : tie.Need-put-word-requires-5
-put-word-requires-5 c κs = search needs
-
-same-length : tie.Need-same-length
-same-length c = search needs
-
 returns : tie.Need-returns
 returns c = let w5 = c .before .before in
     let w4 = w5 .before .before .before .before .before in
@@ -61,16 +28,16 @@ pub put-answer-spec : {M : Type 1} → statement M
 put-answer-spec =
     tie.close
     (tie.spec
-    result-parts-of-requires
-    cast-put-word
-    put-word-requires
-    cast-put-word-2
-    put-word-requires-2
-    cast-put-word-3
-    put-word-requires-3
-    put-word-requires-4
-    cast-put-word-4
-    put-word-requires-5
-    same-length
+    (λ c κs. search needs)
+    (λ c. search needs)
+    (λ c κs. search needs)
+    (λ c. search needs)
+    (λ c κs. search needs)
+    (λ c. search needs)
+    (λ c κs. search needs)
+    (λ c κs. search needs)
+    (λ c. search needs)
+    (λ c κs. search needs)
+    (λ c. search needs)
     returns
     returns-2)

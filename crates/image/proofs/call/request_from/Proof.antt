@@ -12,24 +12,6 @@ returns : tie.Need-returns
 unfolding requestFrom
 returns c = rw (ne-eqb (length (c .before .before .args .bytes .now)) requestLength (c .if1 .taken))
 
-word-in-requires : tie.Need-word-in-requires
-word-in-requires c κs = search needs
-
-word-in-requires-2 : tie.Need-word-in-requires-2
-word-in-requires-2 c κs = search needs
-
-word-in-requires-3 : tie.Need-word-in-requires-3
-word-in-requires-3 c κs = search needs
-
-word-in-requires-4 : tie.Need-word-in-requires-4
-word-in-requires-4 c κs = search needs
-
-word-in-requires-5 : tie.Need-word-in-requires-5
-word-in-requires-5 c κs = search needs
-
-word-in-requires-6 : tie.Need-word-in-requires-6
-word-in-requires-6 c κs = search needs
-
 returns-2 : tie.Need-returns-2
 unfolding requestFrom
 returns-2 c = let w5 = c .before in
@@ -53,10 +35,10 @@ request-from-spec =
     tie.close
     (tie.spec
     returns
-    word-in-requires
-    word-in-requires-2
-    word-in-requires-3
-    word-in-requires-4
-    word-in-requires-5
-    word-in-requires-6
+    (λ c κs. search needs)
+    (λ c κs. search needs)
+    (λ c κs. search needs)
+    (λ c κs. search needs)
+    (λ c κs. search needs)
+    (λ c κs. search needs)
     returns-2)

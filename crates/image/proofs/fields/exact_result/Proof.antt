@@ -15,9 +15,6 @@ returns c = let told = c .before .before .before .args .t in
 returns-2 : tie.Need-returns-2
 returns-2 c = rw (← told-exact (c .before .before .args .t) (search needs), c .if2 .taken)
 
-sub-result : tie.Need-sub-result
-sub-result c = search needs
-
 returns-3 : tie.Need-returns-3
 returns-3 c = let left = c .before .before in
     let told = left .before .before .args .t in
@@ -25,4 +22,4 @@ returns-3 c = let left = c .before .before in
     (and-comm (eqb (told .kind) 2 && ltb (negated 4) (told .word)) (eqb (told .from) 0))
 
 pub exact-result-spec : {M : Type 1} → statement M
-exact-result-spec = tie.close (tie.spec returns returns-2 sub-result returns-3)
+exact-result-spec = tie.close (tie.spec returns returns-2 (λ c. search needs) returns-3)

@@ -3,42 +3,6 @@ use borrow.Author.Needs.{needs}
 use Rattle.image.proofs.fields.parts_of.Statement.{statement}
 use Rattle.image.proofs.fields.parts_of.Tie as tie
 
-enum-told : tie.Need-enum-told
-enum-told c = search needs
-
-plain-requires : tie.Need-plain-requires
-plain-requires c κs = search needs
-
-enum-told-2 : tie.Need-enum-told-2
-enum-told-2 c = search needs
-
-plain-requires-2 : tie.Need-plain-requires-2
-plain-requires-2 c κs = search needs
-
-enum-told-3 : tie.Need-enum-told-3
-enum-told-3 c = search needs
-
-plain-requires-3 : tie.Need-plain-requires-3
-plain-requires-3 c κs = search needs
-
-enum-known-state : tie.Need-enum-known-state
-enum-known-state c = search needs
-
-enum-known-state-2 : tie.Need-enum-known-state-2
-enum-known-state-2 c = search needs
-
-enum-known-state-3 : tie.Need-enum-known-state-3
-enum-known-state-3 c = search needs
-
-enum-known-state-4 : tie.Need-enum-known-state-4
-enum-known-state-4 c = search needs
-
-enum-told-4 : tie.Need-enum-told-4
-enum-told-4 c = search needs
-
-plain-requires-4 : tie.Need-plain-requires-4
-plain-requires-4 c κs = search needs
-
 returns : tie.Need-returns
 returns c = rw (c .before .enum-told .given .1) (c .plain .ensures)
 
@@ -67,18 +31,18 @@ pub parts-of-spec : {M : Type 1} → statement M
 parts-of-spec =
     tie.close
     (tie.spec
-    enum-told
-    plain-requires
-    enum-told-2
-    plain-requires-2
-    enum-told-3
-    plain-requires-3
-    enum-known-state
-    enum-known-state-2
-    enum-known-state-3
-    enum-known-state-4
-    enum-told-4
-    plain-requires-4
+    (λ c. search needs)
+    (λ c κs. search needs)
+    (λ c. search needs)
+    (λ c κs. search needs)
+    (λ c. search needs)
+    (λ c κs. search needs)
+    (λ c. search needs)
+    (λ c. search needs)
+    (λ c. search needs)
+    (λ c. search needs)
+    (λ c. search needs)
+    (λ c κs. search needs)
     returns
     returns-2
     returns-3

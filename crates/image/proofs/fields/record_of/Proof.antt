@@ -8,17 +8,11 @@ use Rattle.image.specs.Record.{taskRecord}
 use Rattle.image.proofs.fields.record_of.Statement.{statement}
 use Rattle.image.proofs.fields.record_of.Tie as tie
 
-state-code-requires : tie.Need-state-code-requires
-state-code-requires c κs = search needs
-
 returns : tie.Need-returns
 unfolding taskRecord
 returns c =
     let none : stateCode (c .before .before .args .x .state) ≡ 0 = sym (c .before .state-code .ensures) ∙ c .if1 .taken in
     rw none
-
-fields-of-requires : tie.Need-fields-of-requires
-fields-of-requires c κs = search needs
 
 returns-2 : tie.Need-returns-2
 unfolding taskRecord
@@ -28,4 +22,4 @@ returns-2 c =
     rw (lt-ltb 0 code (omega (arith, c .before .if1 .left, coded .state-code .ensures))) (c .fields-of .ensures)
 
 pub record-of-spec : {M : Type 1} → statement M
-record-of-spec = tie.close (tie.spec state-code-requires returns fields-of-requires returns-2)
+record-of-spec = tie.close (tie.spec (λ c κs. search needs) returns (λ c κs. search needs) returns-2)

@@ -10,18 +10,6 @@ use Rattle.image.proofs.fields.result_of.Tie as tie
 returns : tie.Need-returns
 returns c = rw (c .if1 .taken)
 
-sub-if3 : tie.Need-sub-if3
-sub-if3 c = search needs
-
-sub-t7 : tie.Need-sub-t7
-sub-t7 c = search needs
-
-cast-t8 : tie.Need-cast-t8
-cast-t8 c = search needs
-
-add-t9 : tie.Need-add-t9
-add-t9 c = search needs
-
 returns-2 : tie.Need-returns-2
 returns-2 c = let word = c .before .before .before .before .before .args .numbers .word in
     rw (c .before .if2 .taken, lt-ltb 4294967292 word (c .if3 .taken)) (ap Fault (omega arith))
@@ -35,4 +23,4 @@ returns-4 c = let code = c .before .before .before .before .args .numbers .kind 
 
 pub result-of-spec : {M : Type 1} → statement M
 result-of-spec =
-    tie.close (tie.spec returns sub-if3 sub-t7 cast-t8 add-t9 returns-2 returns-3 returns-4)
+    tie.close (tie.spec returns (λ c. search needs) (λ c. search needs) (λ c. search needs) (λ c. search needs) returns-2 returns-3 returns-4)

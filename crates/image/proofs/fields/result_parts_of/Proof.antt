@@ -4,21 +4,6 @@ use Rattle.image.proofs.Made.{negated-wraps}
 use Rattle.image.proofs.fields.result_parts_of.Statement.{statement}
 use Rattle.image.proofs.fields.result_parts_of.Tie as tie
 
-enum-told : tie.Need-enum-told
-enum-told c = search needs
-
-enum-known-result : tie.Need-enum-known-result
-enum-known-result c = search needs
-
-enum-known-result-2 : tie.Need-enum-known-result-2
-enum-known-result-2 c = search needs
-
-cast-wrapping-sub-u32 : tie.Need-cast-wrapping-sub-u32
-cast-wrapping-sub-u32 c = search needs
-
-wrapping-sub-u32-requires : tie.Need-wrapping-sub-u32-requires
-wrapping-sub-u32-requires c κs = search needs
-
 returns : tie.Need-returns
 returns c = rw (c .enum-told .given .1)
 
@@ -34,11 +19,11 @@ pub result-parts-of-spec : {M : Type 1} → statement M
 result-parts-of-spec =
     tie.close
     (tie.spec
-    enum-told
-    enum-known-result
-    enum-known-result-2
-    cast-wrapping-sub-u32
-    wrapping-sub-u32-requires
+    (λ c. search needs)
+    (λ c. search needs)
+    (λ c. search needs)
+    (λ c. search needs)
+    (λ c κs. search needs)
     returns
     returns-2
     returns-3)

@@ -7,51 +7,6 @@ use Rattle.image.proofs.Made.{parts-exact}
 use Rattle.image.proofs.fields.stated_from.Statement.{statement}
 use Rattle.image.proofs.fields.stated_from.Tie as tie
 
-no-buffer-requires : tie.Need-no-buffer-requires
-no-buffer-requires c κs = search needs
-
-no-buffer-requires-2 : tie.Need-no-buffer-requires-2
-no-buffer-requires-2 c κs = search needs
-
-read-as-requires : tie.Need-read-as-requires
-read-as-requires c κs = search needs
-
-read-as-requires-2 : tie.Need-read-as-requires-2
-read-as-requires-2 c κs = search needs
-
-read-as-requires-3 : tie.Need-read-as-requires-3
-read-as-requires-3 c κs = search needs
-
-no-buffer-requires-3 : tie.Need-no-buffer-requires-3
-no-buffer-requires-3 c κs = search needs
-
-read-as-requires-4 : tie.Need-read-as-requires-4
-read-as-requires-4 c κs = search needs
-
-read-as-requires-5 : tie.Need-read-as-requires-5
-read-as-requires-5 c κs = search needs
-
-no-buffer-requires-4 : tie.Need-no-buffer-requires-4
-no-buffer-requires-4 c κs = search needs
-
-read-as-requires-6 : tie.Need-read-as-requires-6
-read-as-requires-6 c κs = search needs
-
-no-buffer-requires-5 : tie.Need-no-buffer-requires-5
-no-buffer-requires-5 c κs = search needs
-
-no-buffer-requires-6 : tie.Need-no-buffer-requires-6
-no-buffer-requires-6 c κs = search needs
-
-read-as-requires-7 : tie.Need-read-as-requires-7
-read-as-requires-7 c κs = search needs
-
-read-as-requires-8 : tie.Need-read-as-requires-8
-read-as-requires-8 c κs = search needs
-
-read-as-requires-9 : tie.Need-read-as-requires-9
-read-as-requires-9 c κs = search needs
-
 returns : tie.Need-returns
 returns c = let arm = c .before in
     let asked = arm .before in
@@ -119,21 +74,21 @@ pub stated-from-spec : {M : Type 1} → statement M
 stated-from-spec =
     tie.close
     (tie.spec
-    no-buffer-requires
-    no-buffer-requires-2
-    read-as-requires
-    read-as-requires-2
-    read-as-requires-3
-    no-buffer-requires-3
-    read-as-requires-4
-    read-as-requires-5
-    no-buffer-requires-4
-    read-as-requires-6
-    no-buffer-requires-5
-    no-buffer-requires-6
-    read-as-requires-7
-    read-as-requires-8
-    read-as-requires-9
+    (λ c κs. search needs)
+    (λ c κs. search needs)
+    (λ c κs. search needs)
+    (λ c κs. search needs)
+    (λ c κs. search needs)
+    (λ c κs. search needs)
+    (λ c κs. search needs)
+    (λ c κs. search needs)
+    (λ c κs. search needs)
+    (λ c κs. search needs)
+    (λ c κs. search needs)
+    (λ c κs. search needs)
+    (λ c κs. search needs)
+    (λ c κs. search needs)
+    (λ c κs. search needs)
     returns
     returns-2
     returns-3

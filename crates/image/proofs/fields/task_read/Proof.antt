@@ -38,45 +38,9 @@ entry-stated r parts told stated result q some a b c d e =
     rw (c, regrouped same placed q spare)
     (entry-made r parts told (stateFrom parts) result same q (placed && spare) some a b refl d refl e rest)
 
-shared-slice-read-if1 : tie.Need-shared-slice-read-if1
-shared-slice-read-if1 c = search needs
-
-no-task-requires : tie.Need-no-task-requires
-no-task-requires c κs = search needs
-
-blank-requires : tie.Need-blank-requires
-blank-requires c κs = search needs
-
 returns : tie.Need-returns
 unfolding taskFrom exactRecord
 returns c = rw (c .before .before .if1 .taken) (λ i. record { task = c .before .no-task .ensures i; exact = c .blank .ensures i })
-
-parts-in-requires : tie.Need-parts-in-requires
-parts-in-requires c κs = search needs
-
-result-parts-in-requires : tie.Need-result-parts-in-requires
-result-parts-in-requires c κs = search needs
-
-shared-slice-read-stated-from : tie.Need-shared-slice-read-stated-from
-shared-slice-read-stated-from c = search needs
-
-stated-from-requires : tie.Need-stated-from-requires
-stated-from-requires c κs = search needs
-
-result-of-requires : tie.Need-result-of-requires
-result-of-requires c κs = search needs
-
-shared-slice-read-t10 : tie.Need-shared-slice-read-t10
-shared-slice-read-t10 c = search needs
-
-shared-slice-read-exact : tie.Need-shared-slice-read-exact
-shared-slice-read-exact c = search needs
-
-exact-result-requires : tie.Need-exact-result-requires
-exact-result-requires c κs = search needs
-
-shared-slice-read-exact-2 : tie.Need-shared-slice-read-exact-2
-shared-slice-read-exact-2 c = search needs
 
 returns-2 : tie.Need-returns-2
 returns-2 c = let asked = c .before .before in
@@ -93,17 +57,17 @@ pub task-read-spec : {M : Type 1} → statement M
 task-read-spec =
     tie.close
     (tie.spec
-    shared-slice-read-if1
-    no-task-requires
-    blank-requires
+    (λ c. search needs)
+    (λ c κs. search needs)
+    (λ c κs. search needs)
     returns
-    parts-in-requires
-    result-parts-in-requires
-    shared-slice-read-stated-from
-    stated-from-requires
-    result-of-requires
-    shared-slice-read-t10
-    shared-slice-read-exact
-    exact-result-requires
-    shared-slice-read-exact-2
+    (λ c κs. search needs)
+    (λ c κs. search needs)
+    (λ c. search needs)
+    (λ c κs. search needs)
+    (λ c κs. search needs)
+    (λ c. search needs)
+    (λ c. search needs)
+    (λ c κs. search needs)
+    (λ c. search needs)
     returns-2)

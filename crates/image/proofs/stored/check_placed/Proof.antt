@@ -45,69 +45,9 @@ Inv-loop bytes tasks queues used active good₀ s₀ good s =
 abbrev μ-loop : tie.MeasureT-loop
 μ-loop bytes tasks queues used active good₀ s₀ good s = slotCount - s
 
-used-slots-requires : tie.Need-used-slots-requires Inv-loop μ-loop
-used-slots-requires c κs = search needs
-
-first-active-requires : tie.Need-first-active-requires Inv-loop μ-loop
-first-active-requires c κs = search needs
-
-active-if-ready-requires : tie.Need-active-if-ready-requires Inv-loop μ-loop
-active-if-ready-requires c κs = search needs
-
-single-requires : tie.Need-single-requires Inv-loop μ-loop
-single-requires c κs = search needs
-
 loop-holds : tie.Need-loop-holds Inv-loop μ-loop
 unfolding allBelow
 loop-holds c = (omega arith, sym (and-true _))
-
-mul-task : tie.Need-mul-task Inv-loop μ-loop
-mul-task c = search needs
-
-array-copy-out-task : tie.Need-array-copy-out-task Inv-loop μ-loop
-array-copy-out-task c = search needs
-
-add-good-slot : tie.Need-add-good-slot Inv-loop μ-loop
-add-good-slot c = search needs
-
-mul-good-slot : tie.Need-mul-good-slot Inv-loop μ-loop
-mul-good-slot c = search needs
-
-element-copy-out-good-slot : tie.Need-element-copy-out-good-slot Inv-loop μ-loop
-element-copy-out-good-slot c = search needs
-
-good-slot-requires : tie.Need-good-slot-requires Inv-loop μ-loop
-good-slot-requires c κs = search needs
-
-queue-of-requires : tie.Need-queue-of-requires Inv-loop μ-loop
-queue-of-requires c κs = search needs
-
-mul-row : tie.Need-mul-row Inv-loop μ-loop
-mul-row c = search needs
-
-array-copy-out-row : tie.Need-array-copy-out-row Inv-loop μ-loop
-array-copy-out-row c = search needs
-
-mul-stands : tie.Need-mul-stands Inv-loop μ-loop
-mul-stands c = search needs
-
-add-stands : tie.Need-add-stands Inv-loop μ-loop
-add-stands c = search needs
-
-shared-slice-read-stands : tie.Need-shared-slice-read-stands Inv-loop μ-loop
-shared-slice-read-stands c = search needs
-
-mark-of-requires : tie.Need-mark-of-requires Inv-loop μ-loop
-mark-of-requires c κs = search needs
-
-stands-requires : tie.Need-stands-requires Inv-loop μ-loop
-stands-requires c κs = search needs
-
-add-s : tie.Need-add-s Inv-loop μ-loop
-add-s c = search needs
-
-loop-less : tie.Need-loop-less Inv-loop μ-loop
-loop-less c = search needs
 
 loop-again : tie.Need-loop-again Inv-loop μ-loop
 loop-again c =
@@ -154,26 +94,26 @@ check-placed-spec =
     (tie.spec
     Inv-loop
     μ-loop
-    used-slots-requires
-    first-active-requires
-    active-if-ready-requires
-    single-requires
+    (λ c κs. search needs)
+    (λ c κs. search needs)
+    (λ c κs. search needs)
+    (λ c κs. search needs)
     loop-holds
-    mul-task
-    array-copy-out-task
-    add-good-slot
-    mul-good-slot
-    element-copy-out-good-slot
-    good-slot-requires
-    queue-of-requires
-    mul-row
-    array-copy-out-row
-    mul-stands
-    add-stands
-    shared-slice-read-stands
-    mark-of-requires
-    stands-requires
-    add-s
-    loop-less
+    (λ c. search needs)
+    (λ c. search needs)
+    (λ c. search needs)
+    (λ c. search needs)
+    (λ c. search needs)
+    (λ c κs. search needs)
+    (λ c κs. search needs)
+    (λ c. search needs)
+    (λ c. search needs)
+    (λ c. search needs)
+    (λ c. search needs)
+    (λ c. search needs)
+    (λ c κs. search needs)
+    (λ c κs. search needs)
+    (λ c. search needs)
+    (λ c. search needs)
     loop-again
     returns)

@@ -40,66 +40,9 @@ Inv-loop bytes table₀ exact₀ s₀ table exact s = (s ≤ slotCount) × (tabl
 abbrev μ-loop : tie.MeasureT-loop
 μ-loop bytes table₀ exact₀ s₀ table exact s = slotCount - s
 
-unused-table-requires : tie.Need-unused-table-requires Inv-loop μ-loop
-unused-table-requires c κs = search needs
-
 loop-holds : tie.Need-loop-holds Inv-loop μ-loop
 unfolding tableUpTo allBelow
 loop-holds c = (omega arith, c .unused-table .ensures, refl)
-
-mul-at : tie.Need-mul-at Inv-loop μ-loop
-mul-at c = search needs
-
-add-r : tie.Need-add-r Inv-loop μ-loop
-add-r c = search needs
-
-sub-r : tie.Need-sub-r Inv-loop μ-loop
-sub-r c = search needs
-
-part-r-start : tie.Need-part-r-start Inv-loop μ-loop
-part-r-start c = search needs
-
-part-r-end : tie.Need-part-r-end Inv-loop μ-loop
-part-r-end c = search needs
-
-task-read-requires : tie.Need-task-read-requires Inv-loop μ-loop
-task-read-requires c κs = search needs
-
-mul-task : tie.Need-mul-task Inv-loop μ-loop
-mul-task c = search needs
-
-element-set-from-task : tie.Need-element-set-from-task Inv-loop μ-loop
-element-set-from-task c = search needs
-
-queue-of-requires : tie.Need-queue-of-requires Inv-loop μ-loop
-queue-of-requires c κs = search needs
-
-mul-placed-row : tie.Need-mul-placed-row Inv-loop μ-loop
-mul-placed-row c = search needs
-
-element-copy-out-placed-row : tie.Need-element-copy-out-placed-row Inv-loop μ-loop
-element-copy-out-placed-row c = search needs
-
-shared-slice-read-placed-row : tie.Need-shared-slice-read-placed-row Inv-loop μ-loop
-shared-slice-read-placed-row c = search needs
-
-mark-of-requires : tie.Need-mark-of-requires Inv-loop μ-loop
-mark-of-requires c κs = search needs
-
-placed-row-requires : tie.Need-placed-row-requires Inv-loop μ-loop
-placed-row-requires c κs = search needs
-
-mul-t26 : tie.Need-mul-t26 Inv-loop μ-loop
-mul-t26 c = search needs
-
-element-set-from-table : tie.Need-element-set-from-table Inv-loop μ-loop
-element-set-from-table c = search needs
-
-add-s : tie.Need-add-s Inv-loop μ-loop
-add-s c = search needs
-
-loop-less : tie.Need-loop-less Inv-loop μ-loop
-loop-less c = search needs
 
 loop-again : tie.Need-loop-again Inv-loop μ-loop
 loop-again c =
@@ -135,25 +78,25 @@ decode-spec =
     (tie.spec
     Inv-loop
     μ-loop
-    unused-table-requires
+    (λ c κs. search needs)
     loop-holds
-    mul-at
-    add-r
-    sub-r
-    part-r-start
-    part-r-end
-    task-read-requires
-    mul-task
-    element-set-from-task
-    queue-of-requires
-    mul-placed-row
-    element-copy-out-placed-row
-    shared-slice-read-placed-row
-    mark-of-requires
-    placed-row-requires
-    mul-t26
-    element-set-from-table
-    add-s
-    loop-less
+    (λ c. search needs)
+    (λ c. search needs)
+    (λ c. search needs)
+    (λ c. search needs)
+    (λ c. search needs)
+    (λ c κs. search needs)
+    (λ c. search needs)
+    (λ c. search needs)
+    (λ c κs. search needs)
+    (λ c. search needs)
+    (λ c. search needs)
+    (λ c. search needs)
+    (λ c κs. search needs)
+    (λ c κs. search needs)
+    (λ c. search needs)
+    (λ c. search needs)
+    (λ c. search needs)
+    (λ c. search needs)
     loop-again
     returns)

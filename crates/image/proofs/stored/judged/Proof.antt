@@ -10,18 +10,9 @@ use Rattle.image.proofs.Exact.{given-placed}
 use Rattle.image.proofs.stored.judged.Statement.{statement}
 use Rattle.image.proofs.stored.judged.Tie as tie
 
-refused-requires : tie.Need-refused-requires
-refused-requires c κs = search needs
-
 returns : tie.Need-returns
 unfolding judgedImage
 returns c = rw (ne-eqb _ (slotCount * recordLength) (c .before .if1 .taken)) (c .refused .ensures)
-
-decode-requires : tie.Need-decode-requires
-decode-requires c κs = search needs
-
-check-placed-requires : tie.Need-check-placed-requires
-check-placed-requires c κs = search needs
 
 returns-2 : tie.Need-returns-2
 returns-2 c =
@@ -44,4 +35,4 @@ returns-3 c =
 pub judged-spec : {M : Type 1} → statement M
 judged-spec =
     tie.close
-    (tie.spec refused-requires returns decode-requires check-placed-requires returns-2 returns-3)
+    (tie.spec (λ c κs. search needs) returns (λ c κs. search needs) (λ c κs. search needs) returns-2 returns-3)

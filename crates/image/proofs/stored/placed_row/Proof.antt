@@ -11,12 +11,6 @@ use Rattle.queue.specs.Numbering.{places}
 use Rattle.image.proofs.stored.placed_row.Statement.{statement}
 use Rattle.image.proofs.stored.placed_row.Tie as tie
 
-element-write-q : tie.Need-element-write-q
-element-write-q c = search needs
-
-reach-requires : tie.Need-reach-requires
-reach-requires c κs = search needs
-
 returns : tie.Need-returns
 returns c =
     let joined = c .before in
@@ -33,4 +27,4 @@ returns c =
     λ i. record { marks = put i .marks; len = reaches i }
 
 pub placed-row-spec : {M : Type 1} → statement M
-placed-row-spec = tie.close (tie.spec element-write-q reach-requires returns)
+placed-row-spec = tie.close (tie.spec (λ c. search needs) (λ c κs. search needs) returns)

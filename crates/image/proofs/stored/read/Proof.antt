@@ -7,12 +7,6 @@ use Rattle.image.proofs.Made.{read-given, read-broken}
 use Rattle.image.proofs.stored.read.Statement.{statement}
 use Rattle.image.proofs.stored.read.Tie as tie
 
-judged-requires : tie.Need-judged-requires
-judged-requires c κs = search needs
-
-refused-requires : tie.Need-refused-requires
-refused-requires c κs = search needs
-
 returns : tie.Need-returns
 returns c =
     let here = c .before in
@@ -29,4 +23,4 @@ returns-2 c =
     met .judged .ensures ∙ read-given slotCount bytes (λ e. c .if1 .left (verdict ∙ e))
 
 pub read-spec : {M : Type 1} → statement M
-read-spec = tie.close (tie.spec judged-requires refused-requires returns returns-2)
+read-spec = tie.close (tie.spec (λ c κs. search needs) (λ c κs. search needs) returns returns-2)

@@ -6,12 +6,9 @@ use Rattle.kernel.specs.Table.{activeSlot}
 use Rattle.image.proofs.stored.refused.Statement.{statement}
 use Rattle.image.proofs.stored.refused.Tie as tie
 
-unused-table-requires : tie.Need-unused-table-requires
-unused-table-requires c κs = search needs
-
 returns : tie.Need-returns
 unfolding activeSlot firstFrom
 returns c = λ i. record { table = c .unused-table .ensures i; active = slotCount; verdict = c .before .args .verdict }
 
 pub refused-spec : {M : Type 1} → statement M
-refused-spec = tie.close (tie.spec unused-table-requires returns)
+refused-spec = tie.close (tie.spec (λ c κs. search needs) returns)

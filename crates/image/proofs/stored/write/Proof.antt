@@ -21,9 +21,6 @@ returns c = let start = c .before .before in
     let count = sized start in
     write-short (start .args .table) (start .args .out .now) (λ e. c .if1 .taken (e ∙ rw count))
 
-check-requires : tie.Need-check-requires
-check-requires c κs = search needs
-
 returns-2 : tie.Need-returns-2
 returns-2 c = let checked = c .before .before in
     let start = checked .before .before .before in
@@ -31,12 +28,6 @@ returns-2 c = let checked = c .before .before in
     let good = ap (λ (k : Checked). k .good) (checked .check .ensures) in
     let whole : length (start .args .out .now) ≡ slots (start .args .table) * recordLength = rw count (checked .before .if1 .left) in
     write-bad (start .args .table) (start .args .out .now) whole (sym good ∙ not-true (checked .check .result .good) (c .if2 .taken))
-
-store-requires : tie.Need-store-requires
-store-requires c κs = search needs
-
-same-length : tie.Need-same-length
-same-length c = search needs
 
 returns-3 : tie.Need-returns-3
 returns-3 c = let stored = c .before .before in
@@ -49,4 +40,4 @@ returns-3 c = let stored = c .before .before in
 
 pub write-spec : {M : Type 1} → statement M
 write-spec =
-    tie.close (tie.spec returns check-requires returns-2 store-requires same-length returns-3)
+    tie.close (tie.spec returns (λ c κs. search needs) returns-2 (λ c κs. search needs) (λ c. search needs) returns-3)

@@ -8,21 +8,6 @@ use borrow.Author.Needs.{needs}
 use Rattle.image.proofs.words.short_in.Statement.{statement}
 use Rattle.image.proofs.words.short_in.Tie as tie
 
-shared-slice-read-wider : tie.Need-shared-slice-read-wider
-shared-slice-read-wider c = search needs
-
-wider-requires : tie.Need-wider-requires
-wider-requires c κs = search needs
-
-add-wider : tie.Need-add-wider
-add-wider c = search needs
-
-shared-slice-read-wider-2 : tie.Need-shared-slice-read-wider-2
-shared-slice-read-wider-2 c = search needs
-
-wider-requires-2 : tie.Need-wider-requires-2
-wider-requires-2 c κs = search needs
-
 mul-result : tie.Need-mul-result
 mul-result c = omega arith
 
@@ -39,11 +24,11 @@ pub short-in-spec : {M : Type 1} → statement M
 short-in-spec =
     tie.close
     (tie.spec
-    shared-slice-read-wider
-    wider-requires
-    add-wider
-    shared-slice-read-wider-2
-    wider-requires-2
+    (λ c. search needs)
+    (λ c κs. search needs)
+    (λ c. search needs)
+    (λ c. search needs)
+    (λ c κs. search needs)
     mul-result
     add-result
     returns)

@@ -12,12 +12,6 @@ returns : tie.Need-returns
 unfolding endOf
 returns c = rw (eq-eqb (c .before .before .args .count % requestLength) 0 (c .if1 .taken)) nothing
 
-put-end-requires : tie.Need-put-end-requires
-put-end-requires c κs = search needs
-
-same-length : tie.Need-same-length
-same-length c = search needs
-
 returns-2 : tie.Need-returns-2
 unfolding endOf
 returns-2 c =
@@ -25,4 +19,4 @@ returns-2 c =
     rw (ne-eqb (start .args .count % requestLength) 0 (c .before .before .before .before .if1 .left)) (c .before .before .put-end .ensures)
 
 pub end-block-spec : {M : Type 1} → statement M
-end-block-spec = tie.close (tie.spec returns put-end-requires same-length returns-2)
+end-block-spec = tie.close (tie.spec returns (λ c κs. search needs) (λ c. search needs) returns-2)

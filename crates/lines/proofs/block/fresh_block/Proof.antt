@@ -5,11 +5,8 @@ use Rattle.rules.specs.declared.Started.{Started}
 use Rattle.lines.proofs.block.fresh_block.Statement.{statement}
 use Rattle.lines.proofs.block.fresh_block.Tie as tie
 
-start-requires : tie.Need-start-requires
-start-requires c κs = search needs
-
 returns : tie.Need-returns
 returns c = ap (λ (x : Started). record { table = x .table; step = 1; end = 0 }) (c .before .start .ensures)
 
 pub fresh-block-spec : {M : Type 1} → statement M
-fresh-block-spec = tie.close (tie.spec start-requires returns)
+fresh-block-spec = tie.close (tie.spec (λ c κs. search needs) returns)

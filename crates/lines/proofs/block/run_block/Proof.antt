@@ -29,27 +29,6 @@ loop-holds c =
     let asked = c .before .before .before .args in
     (omega arith, refl, refl, refl, run-none (asked .first) (asked .records .now) (asked .areas .now) (asked .out .now), λ good. good, omega arith)
 
-mul-at : tie.Need-mul-at Inv-loop μ-loop
-mul-at c = search needs
-
-add-next : tie.Need-add-next Inv-loop μ-loop
-add-next c = search needs
-
-sub-step-one : tie.Need-sub-step-one Inv-loop μ-loop
-sub-step-one c = search needs
-
-part-step-one-start : tie.Need-part-step-one-start Inv-loop μ-loop
-part-step-one-start c = search needs
-
-part-step-one-end : tie.Need-part-step-one-end Inv-loop μ-loop
-part-step-one-end c = search needs
-
-step-one-requires : tie.Need-step-one-requires Inv-loop μ-loop
-step-one-requires c κs = search needs
-
-add-i : tie.Need-add-i Inv-loop μ-loop
-add-i c = search needs
-
 loop-less : tie.Need-loop-less Inv-loop μ-loop
 loop-less c =
     let test = c .before .before .before .before .before .before .before .before in
@@ -76,12 +55,6 @@ loop-again c =
       omega (arith, inv .6, size-more (begun (start .args .first) areas) records i same (inv .4) (made .1 .1)),
     )
 
-same-length : tie.Need-same-length Inv-loop μ-loop
-same-length c = search needs
-
-same-length-2 : tie.Need-same-length-2 Inv-loop μ-loop
-same-length-2 c = search needs
-
 returns : tie.Need-returns Inv-loop μ-loop
 returns c =
     let inv = c .before .loop .inv in
@@ -97,15 +70,15 @@ run-block-spec =
     Inv-loop
     μ-loop
     loop-holds
-    mul-at
-    add-next
-    sub-step-one
-    part-step-one-start
-    part-step-one-end
-    step-one-requires
-    add-i
+    (λ c. search needs)
+    (λ c. search needs)
+    (λ c. search needs)
+    (λ c. search needs)
+    (λ c. search needs)
+    (λ c κs. search needs)
+    (λ c. search needs)
     loop-less
     loop-again
-    same-length
-    same-length-2
+    (λ c. search needs)
+    (λ c. search needs)
     returns)

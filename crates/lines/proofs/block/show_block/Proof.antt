@@ -8,18 +8,6 @@ use Rattle.lines.proofs.Lengths.{end-size, whole}
 use Rattle.lines.proofs.block.show_block.Statement.{statement}
 use Rattle.lines.proofs.block.show_block.Tie as tie
 
-run-block-requires : tie.Need-run-block-requires
-run-block-requires c κs = search needs
-
-end-block-requires : tie.Need-end-block-requires
-end-block-requires c κs = search needs
-
-same-length : tie.Need-same-length
-same-length c = search needs
-
-same-length-2 : tie.Need-same-length-2
-same-length-2 c = search needs
-
 returns : tie.Need-returns
 returns c =
     let last = c .before .before in
@@ -36,4 +24,4 @@ returns c =
 
 pub show-block-spec : {M : Type 1} → statement M
 show-block-spec =
-    tie.close (tie.spec run-block-requires end-block-requires same-length same-length-2 returns)
+    tie.close (tie.spec (λ c κs. search needs) (λ c κs. search needs) (λ c. search needs) (λ c. search needs) returns)

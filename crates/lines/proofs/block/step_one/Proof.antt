@@ -9,24 +9,6 @@ use Rattle.lines.proofs.Joined.{known-as}
 use Rattle.lines.proofs.block.step_one.Statement.{statement}
 use Rattle.lines.proofs.block.step_one.Tie as tie
 
-request-from-requires : tie.Need-request-from-requires
-request-from-requires c κs = search needs
-
-proceed-requires : tie.Need-proceed-requires
-proceed-requires c κs = search needs
-
-line-requires : tie.Need-line-requires
-line-requires c κs = search needs
-
-wrapping-add-u64-requires : tie.Need-wrapping-add-u64-requires
-wrapping-add-u64-requires c κs = search needs
-
-same-length : tie.Need-same-length
-same-length c = search needs
-
-same-length-2 : tie.Need-same-length-2
-same-length-2 c = search needs
-
 returns : tie.Need-returns
 returns c =
     let shown = c .before .before .before in
@@ -49,10 +31,10 @@ pub step-one-spec : {M : Type 1} → statement M
 step-one-spec =
     tie.close
     (tie.spec
-    request-from-requires
-    proceed-requires
-    line-requires
-    wrapping-add-u64-requires
-    same-length
-    same-length-2
+    (λ c κs. search needs)
+    (λ c κs. search needs)
+    (λ c κs. search needs)
+    (λ c κs. search needs)
+    (λ c. search needs)
+    (λ c. search needs)
     returns)

@@ -6,30 +6,12 @@ use Rattle.lines.specs.Line.{verdictText}
 use Rattle.lines.proofs.shown.put_verdict.Statement.{statement}
 use Rattle.lines.proofs.shown.put_verdict.Tie as tie
 
-put-requires : tie.Need-put-requires
-put-requires c κs = search needs
-
-put-requires-2 : tie.Need-put-requires-2
-put-requires-2 c κs = search needs
-
-same-length : tie.Need-same-length
-same-length c = search needs
-
 returns : tie.Need-returns
 unfolding verdictText
 returns c =
     let b = c .before .before in
     let a = b .before .before .before .before in
     rw (eq-eqb (a .before .before .before .before .args .verdict) 0 (a .before .before .if1 .taken)) (then (a .put .ensures) (b .put2 .ensures))
-
-put-requires-3 : tie.Need-put-requires-3
-put-requires-3 c κs = search needs
-
-put-decimal-requires : tie.Need-put-decimal-requires
-put-decimal-requires c κs = search needs
-
-same-length-2 : tie.Need-same-length-2
-same-length-2 c = search needs
 
 returns-2 : tie.Need-returns-2
 unfolding verdictText
@@ -42,11 +24,11 @@ pub put-verdict-spec : {M : Type 1} → statement M
 put-verdict-spec =
     tie.close
     (tie.spec
-    put-requires
-    put-requires-2
-    same-length
+    (λ c κs. search needs)
+    (λ c κs. search needs)
+    (λ c. search needs)
     returns
-    put-requires-3
-    put-decimal-requires
-    same-length-2
+    (λ c κs. search needs)
+    (λ c κs. search needs)
+    (λ c. search needs)
     returns-2)

@@ -6,15 +6,6 @@ use borrow.Author.Needs.{needs}
 use Rattle.lines.proofs.text.put.Statement.{statement}
 use Rattle.lines.proofs.text.put.Tie as tie
 
-slice-write-out : tie.Need-slice-write-out
-slice-write-out c = search needs
-
-add-result : tie.Need-add-result
-add-result c = search needs
-
-same-length : tie.Need-same-length
-same-length c = search needs
-
 returns : tie.Need-returns
 returns c = record { stored = refl; ended = omega arith }
 
@@ -22,4 +13,4 @@ returns-2 : tie.Need-returns-2
 returns-2 c = record { stored = sym (set-out _ _ _ (c .if1 .left)); ended = omega arith }
 
 pub put-spec : {M : Type 1} → statement M
-put-spec = tie.close (tie.spec slice-write-out add-result same-length returns returns-2)
+put-spec = tie.close (tie.spec (λ c. search needs) (λ c. search needs) (λ c. search needs) returns returns-2)

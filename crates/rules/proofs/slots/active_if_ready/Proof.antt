@@ -9,11 +9,8 @@ use Rattle.rules.proofs.slots.active_if_ready.Tie as tie
 returns : tie.Need-returns
 returns c = rw (lt-ltb _ slotCount (c .if1 .taken))
 
-first-ready-requires : tie.Need-first-ready-requires
-first-ready-requires c κs = search needs
-
 returns-2 : tie.Need-returns-2
 returns-2 c = rw (le-ltb _ slotCount (c .before .if1 .left), c .first-ready .ensures) (none-filled priorities (c .before .before .args .queues))
 
 pub active-if-ready-spec : {M : Type 1} → statement M
-active-if-ready-spec = tie.close (tie.spec returns first-ready-requires returns-2)
+active-if-ready-spec = tie.close (tie.spec returns (λ c κs. search needs) returns-2)

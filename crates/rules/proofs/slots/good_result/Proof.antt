@@ -3,21 +3,6 @@ use borrow.Author.Needs.{needs}
 use Rattle.rules.proofs.slots.good_result.Statement.{statement}
 use Rattle.rules.proofs.slots.good_result.Tie as tie
 
-enum-told : tie.Need-enum-told
-enum-told c = search needs
-
-enum-known-result : tie.Need-enum-known-result
-enum-known-result c = search needs
-
-wide-requires : tie.Need-wide-requires
-wide-requires c κs = search needs
-
-enum-known-result-2 : tie.Need-enum-known-result-2
-enum-known-result-2 c = search needs
-
-returns : tie.Need-returns
-returns c = search needs
-
 returns-2 : tie.Need-returns-2
 returns-2 c = rw (c .wide .ensures, c .before .before .result .given .1)
 
@@ -28,10 +13,10 @@ pub good-result-spec : {M : Type 1} → statement M
 good-result-spec =
     tie.close
     (tie.spec
-    enum-told
-    enum-known-result
-    wide-requires
-    enum-known-result-2
-    returns
+    (λ c. search needs)
+    (λ c. search needs)
+    (λ c κs. search needs)
+    (λ c. search needs)
+    (λ c. search needs)
     returns-2
     returns-3)
