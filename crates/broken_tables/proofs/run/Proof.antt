@@ -6,16 +6,16 @@ use Rattle.broken_tables.proofs.run.Statement.{statement}
 use Rattle.broken_tables.proofs.run.Tie as tie
 
 abbrev Inv-loop : tie.InvT-loop
-Inv-loop text tally₀ whole table₀ at₀ tally table at = at ≤ length text + 1
+Inv-loop text tally₀ whole₀ table₀ at₀ tally whole table at = at ≤ length text + 1
 
 abbrev μ-loop : tie.MeasureT-loop
-μ-loop text tally₀ whole table₀ at₀ tally table at = length text + 1 - at
+μ-loop text tally₀ whole₀ table₀ at₀ tally whole table at = length text + 1 - at
 
 none-requires : tie.Need-none-requires Inv-loop μ-loop
 none-requires c κs = search needs
 
-busy-requires : tie.Need-busy-requires Inv-loop μ-loop
-busy-requires c κs = search needs
+start-requires : tie.Need-start-requires Inv-loop μ-loop
+start-requires c κs = search needs
 
 loop-holds : tie.Need-loop-holds Inv-loop μ-loop
 loop-holds c = search needs
@@ -25,6 +25,9 @@ line-end-requires c κs = search needs
 
 shared-slice-read-what : tie.Need-shared-slice-read-what Inv-loop μ-loop
 shared-slice-read-what c = search needs
+
+write-states-requires : tie.Need-write-states-requires Inv-loop μ-loop
+write-states-requires c κs = search needs
 
 sub-found : tie.Need-sub-found Inv-loop μ-loop
 sub-found c = search needs
@@ -72,10 +75,11 @@ run-spec =
     Inv-loop
     μ-loop
     none-requires
-    busy-requires
+    start-requires
     loop-holds
     line-end-requires
     shared-slice-read-what
+    write-states-requires
     sub-found
     part-found-start
     part-found-end
