@@ -12,7 +12,11 @@ const LAST: usize = 254;
 pub fn mark_of(s: usize) -> u8
     ensures { λ r. ⌜ r ≡ markOf (min s lastSlot) ⌝ }
 {
-    if s < LAST { s as u8 + 1 } else { LAST as u8 + 1 }
+    if s < LAST {
+        s as u8 + 1
+    } else {
+        LAST as u8 + 1
+    }
 }
 
 // The slot that a mark stands for.
@@ -26,7 +30,11 @@ pub fn slot_of(mark: u8) -> usize
 pub fn tid_of(s: usize) -> u8
     ensures { λ r. ⌜ r ≡ tidOf (min s lastSlot) ⌝ }
 {
-    if s < LAST { s as u8 + 1 } else { LAST as u8 + 1 }
+    if s < LAST {
+        s as u8 + 1
+    } else {
+        LAST as u8 + 1
+    }
 }
 
 // The slot of the task that a tid names.
