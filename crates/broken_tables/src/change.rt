@@ -1,5 +1,5 @@
 // What a line of the input changes in a table, by its letter and its numbers.
-use crate::busy::idle;
+use crate::busy::asked;
 use crate::put::bare;
 use crate::put::last_place;
 use crate::put::row;
@@ -97,7 +97,7 @@ pub(crate) fn changed(table: Table, what: u8, n: [u32; NUMBERS]) -> Table {
         b'S' => with_queue(table, send_queue(first), row_of(n)),
         b'L' => with_queue(table, n[0] as usize, last_place(narrow(n[1]))),
         b'N' => rules::unused_table(),
-        b'I' => idle(table),
+        b'!' => asked(table, n),
         _ => {
             let task = changed_task(task_of(table, first), what, n);
             with_task(table, first, task)

@@ -7,25 +7,31 @@ mod put;
 mod tally;
 mod text;
 
-use crate::busy::busy;
 use crate::busy::write_states;
 use crate::change::changed;
 use crate::tally::Tally;
 use crate::text::line_end;
 use crate::text::numbers;
 use libc::STDIN_FILENO;
-use libc::STDOUT_FILENO;
 
-// A line that begins with - or + ends a case, whose table is to be refused or accepted; any other changes the table.
+// The first task's priority.
+const FIRST: u32 = 16;
+
+// A line that begins with - or + ends a case, whose table is to be refused or accepted; one with = makes the table the one that each
+// case starts from; any other changes the table.
 fn run(text: &[u8]) -> Tally {
     let mut tally = Tally::none();
-    let whole = busy();
+    let started = rules::start(FIRST);
+    let mut whole = started.table;
     let mut table = whole;
     let mut at = 0;
     while at < text.len() {
         let end = line_end(text, at);
         let what = text[at];
-        if what == b'-' || what == b'+' {
+        if what == b'=' {
+            write_states(table);
+            whole = table;
+        } else if what == b'-' || what == b'+' {
             tally = tally.found(&text[at..end], what == b'+', table);
             table = whole;
         } else {
@@ -37,9 +43,6 @@ fn run(text: &[u8]) -> Tally {
 }
 
 fn main() {
-    io::write_all(STDOUT_FILENO, b"states");
-    write_states(busy());
-    io::write_all(STDOUT_FILENO, b"\n");
     let mut text = io::large_buffer();
     let n = io::read_full(STDIN_FILENO, &mut text);
     run(&text[..n]).write();

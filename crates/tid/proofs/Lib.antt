@@ -1,2 +1,3 @@
 pub mod Byte
+pub mod Trips
 mod Determined

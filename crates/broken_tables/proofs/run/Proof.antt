@@ -6,10 +6,10 @@ use Rattle.broken_tables.proofs.run.Statement.{statement}
 use Rattle.broken_tables.proofs.run.Tie as tie
 
 abbrev Inv-loop : tie.InvT-loop
-Inv-loop text tally₀ whole table₀ at₀ tally table at = at ≤ length text + 1
+Inv-loop text tally₀ whole₀ table₀ at₀ tally whole table at = at ≤ length text + 1
 
 abbrev μ-loop : tie.MeasureT-loop
-μ-loop text tally₀ whole table₀ at₀ tally table at = length text + 1 - at
+μ-loop text tally₀ whole₀ table₀ at₀ tally whole table at = length text + 1 - at
 
 pub run-spec : {M : Type 1} → statement M
 run-spec =
@@ -22,6 +22,7 @@ run-spec =
     (λ c. search needs)
     (λ c κs. search needs)
     (λ c. search needs)
+    (λ c κs. search needs)
     (λ c. search needs)
     (λ c. search needs)
     (λ c. search needs)
