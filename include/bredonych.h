@@ -87,11 +87,11 @@ enum bredonych_fault {
  * unused, and each step of it is refused by 2. The areas are the host's to clear. */
 uint32_t kernel_start(uint32_t priority, uint8_t *image, uint64_t image_length);
 
-/* One step: does what the record asks and answers the verdict, which is also the answer's first word. The image and the areas
+/* One step: does what the request asks and answers the verdict, which is also the answer's first word. The image and the areas
  * are changed in place; refused, they are left as they are, and the answer says who is active (refusals 3, 4, 8 and 9) or 0.
  * Refused by 10, the answer is not written either. */
-uint32_t kernel_step(uint8_t *image, uint64_t image_length, uint8_t *areas, uint64_t areas_length, const uint8_t *record,
-                     uint64_t record_length, uint8_t *answer, uint64_t answer_length);
+uint32_t kernel_step(uint8_t *image, uint64_t image_length, uint8_t *areas, uint64_t areas_length, const uint8_t *request,
+                     uint64_t request_length, uint8_t *answer, uint64_t answer_length);
 
 #ifdef __cplusplus
 }

@@ -3,8 +3,8 @@ use mathlib.Core.Path.{_≡_, sym}
 use native.Mathlib.Omega.{arith}
 use lib.Seq.{length-take-le}
 use borrow.Author.Needs.{needs}
-use Rattle.kernel_cases.proofs.main.Statement.{statement}
-use Rattle.kernel_cases.proofs.main.Tie as tie
+use Rattle.border_cases.proofs.main.Statement.{statement}
+use Rattle.border_cases.proofs.main.Tie as tie
 
 array-share-prefix-out : tie.Need-array-share-prefix-out
 array-share-prefix-out c =

@@ -1,4 +1,4 @@
-// The cases that the paper has run and compared, in one run: its file `stdin` has their requests, and `stdout` their lines.
+// The cases at the borders of what is allowed, in one run: its file `stdin` has their requests, and `stdout` their lines.
 use libc::STDIN_FILENO;
 use libc::STDOUT_FILENO;
 use lines::fresh_block;
