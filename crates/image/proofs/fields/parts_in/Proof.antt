@@ -5,7 +5,9 @@ use Rattle.image.proofs.fields.parts_in.Statement.{statement}
 use Rattle.image.proofs.fields.parts_in.Tie as tie
 
 returns : tie.Need-returns
-returns c = let r = c .before .before .before .before .before .args .r .now in
+returns c =
+    let start = c .before .before .before .before .before in
+    let r = start .args .r .now in
     λ i. record { code = byteIn r atState; awaited = byteIn r atAwaited; message = c .before .buffer-in .ensures i; reply = c .buffer-in2 .ensures i }
 
 pub parts-in-spec : {M : Type 1} → statement M

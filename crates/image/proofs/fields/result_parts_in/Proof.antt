@@ -5,7 +5,9 @@ use Rattle.image.proofs.fields.result_parts_in.Statement.{statement}
 use Rattle.image.proofs.fields.result_parts_in.Tie as tie
 
 returns : tie.Need-returns
-returns c = let r = c .before .before .before .before .args .r .now in
+returns c =
+    let start = c .before .before .before .before in
+    let r = start .args .r .now in
     λ i. record { kind = byteIn r atResult; from = byteIn r atFrom; word = c .word-in .ensures i }
 
 pub result-parts-in-spec : {M : Type 1} → statement M

@@ -56,8 +56,10 @@ returns-8 c = let arm = c .before in
     rw (c .read-as8 .ensures, ← parts-exact parts _ _ (asked .before .no-buffer .ensures) (asked .no-buffer2 .ensures), arm .match .keys8)
 
 returns-9 : tie.Need-returns-9
-returns-9 c = let rest = c .before .match .rest in
-    let code = c .before .before .before .before .before .before .args .parts .code in
+returns-9 c =
+    let start = c .before .before .before .before .before .before in
+    let rest = c .before .match .rest in
+    let code = start .args .parts .code in
     rw (
       c .read-as9 .ensures,
       ne-eqb code 1 (rest .0 .0 .0 .0 .0 .0 .1),

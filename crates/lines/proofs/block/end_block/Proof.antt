@@ -15,8 +15,9 @@ returns c = rw (eq-eqb (c .before .before .args .count % requestLength) 0 (c .if
 returns-2 : tie.Need-returns-2
 unfolding endOf
 returns-2 c =
-    let start = c .before .before .before .before .before .before in
-    rw (ne-eqb (start .args .count % requestLength) 0 (c .before .before .before .before .if1 .left)) (c .before .before .put-end .ensures)
+    let asked = c .before .before .before .before in
+    let start = asked .before .before in
+    rw (ne-eqb (start .args .count % requestLength) 0 (asked .if1 .left)) (c .before .before .put-end .ensures)
 
 pub end-block-spec : {M : Type 1} → statement M
 end-block-spec = tie.close (tie.spec returns (λ c κs. search needs) (λ c. search needs) returns-2)

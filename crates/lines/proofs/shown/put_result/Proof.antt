@@ -8,13 +8,19 @@ use Rattle.lines.proofs.shown.put_result.Tie as tie
 
 returns : tie.Need-returns
 unfolding resultText
-returns c = rw (c .before .before .before .before .enum-told .given .1) (c .before .before .put .ensures, omega arith)
+returns c =
+    let enum-told = c .before .before .before .before in
+    rw (enum-told .enum-told .given .1) (c .before .before .put .ensures, omega arith)
 
 returns-2 : tie.Need-returns-2
-returns-2 c = rw (c .before .before .before .before .before .result .given .1) (c .before .before .put-value .ensures)
+returns-2 c =
+    let result = c .before .before .before .before .before in
+    rw (result .result .given .1) (c .before .before .put-value .ensures)
 
 returns-3 : tie.Need-returns-3
-returns-3 c = rw (c .before .before .before .before .before .result2 .given .1) (c .before .before .put-fault .ensures, fault-size _)
+returns-3 c =
+    let result = c .before .before .before .before .before in
+    rw (result .result2 .given .1) (c .before .before .put-fault .ensures, fault-size _)
 
 pub put-result-spec : {M : Type 1} → statement M
 put-result-spec =

@@ -12,7 +12,8 @@ use Rattle.lines.proofs.text.put_signed.Tie as tie
 returns : tie.Need-returns
 unfolding signed
 returns c =
-    let w : ℕ = c .before .before .before .before .before .before .args .w in
+    let start = c .before .before .before .before .before .before in
+    let w : ℕ = start .args .w in
     rw (lt-ltb w firstNegative (omega arith)) (c .before .before .put-decimal .ensures)
 
 returns-2 : tie.Need-returns-2
