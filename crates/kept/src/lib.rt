@@ -1,1 +1,1 @@
-// Theorems alone, in proofs/: every decision leaves a table that keeps the rules.
+// Theorems alone: every decision leaves a table that keeps the rules. specs/Sound says it, proofs/Kept proves it.
