@@ -1,4 +1,4 @@
-# The table of bench/grow: reads lines `what places number [harness]`.
+# The table of bench/grow: reads lines `what slots number [harness]`.
 
 function row(title, name,    i, line, some) {
     line = "| " title " |"
@@ -11,13 +11,13 @@ function row(title, name,    i, line, some) {
 BEGIN { count = split(sizes, size, " ") }
 { figure[$1, $2] = $3 - $4 }
 # what is left of reading an image once its records are decoded
-$1 == "apart-given" { figure["apart-check", $2] = $3 - figure["apart-decode", $2] }
+$1 == "apart-judged" { figure["apart-check", $2] = $3 - figure["apart-decode", $2] }
 /^seconds-/ && !seen[$1]++ { proof[++proofs] = $1 }
 END {
     line = "| |"
     rule = "|---|"
     for (i = 1; i <= count; i++) {
-        line = line sprintf(" %d places |", size[i])
+        line = line sprintf(" %d slots |", size[i])
         rule = rule "---|"
     }
     print line "\n" rule
@@ -26,6 +26,7 @@ END {
     row("decode", "apart-decode")
     row("check", "apart-check")
     row("decide", "apart-decide_at")
+    row("areas", "apart-apply")
     row("write", "apart-store")
     row("a step in memory, instructions", "step")
     row("code on a Cortex-M4, bytes", "code")

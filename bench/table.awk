@@ -33,7 +33,7 @@ function head(title,    i, line, rule) {
 BEGIN { count = split(sizes, size, " ") }
 { figure[$1, $2] = $3 - $4 }
 # what is left of reading an image once its records are decoded
-$1 == "apart-given" { figure["apart-check", $2] = $3 - figure["apart-decode", $2] }
+$1 == "apart-judged" { figure["apart-check", $2] = $3 - figure["apart-decode", $2] }
 END {
     head("A call of the byte entry, " unit)
     row("proved", "entry")
@@ -50,7 +50,7 @@ END {
     print ""
     head("The byte entry by part, each with what it calls")
     row("decode (`image::stored::decode`)", "apart-decode")
-    row("check (the rest of `image::stored::given`)", "apart-check")
+    row("check (the rest of `image::stored::judged`)", "apart-check")
     row("decide (`Table::decide_at`)", "apart-decide_at")
     row("areas (`step::areas::apply`)", "apart-apply")
     row("write (`image::stored::store`)", "apart-store")
