@@ -30,7 +30,7 @@ use Rattle.rules.proofs.Good.{good-facts}
 use Rattle.rules.proofs.Made.{placed-good}
 use Rattle.image.specs.declared.stored.Decoded.{Decoded}
 use Rattle.image.specs.Bytes.{inOrder, recordAt, same}
-use Rattle.image.specs.Record.{recordLength, storedPlace, taskRecord, recordOf, placeIn}
+use Rattle.image.specs.Record.{recordLength, storedPlace, taskRecord, recordOf, placeRead}
 use Rattle.image.specs.Image.{imageOf, tableOf, isImage, judgedImage}
 use Rattle.image.specs.Exact.{exactRecord, exactUpTo, decodedOf, checkedPlaced}
 use Rattle.image.proofs.Bytes.{recordAt-inOrder, same-true, same-refl}
@@ -79,7 +79,7 @@ module _ (n : ℕ) (bytes : List ℕ) where
         let at = slot-place (lined .holds .row k inside) s l (eq-eqb _ k e) in
         (stored-in n (tableOf n bytes) s (g .rules .size) e h, at .0, at .1)
 
-    queue-place : (k : ℕ) → standing n (taskAt (tableOf n bytes) s) ≡ k → k < queuesFor n → storedPlace (tableOf n bytes) s ≡ placeIn bytes s
+    queue-place : (k : ℕ) → standing n (taskAt (tableOf n bytes) s) ≡ k → k < queuesFor n → storedPlace (tableOf n bytes) s ≡ placeRead bytes s
     queue-place k e h =
         let (at, _, here) = own k e h in
         at ∙ sym (place-found n bytes k _ s h here)
@@ -169,6 +169,6 @@ given-placed n bytes whole small decoded checked verdict =
       decoded,
       eq-eqb (length bytes) (n * recordLength) whole,
       image-exact n bytes whole small,
-      placed-good n t (placeIn bytes) (table-made n bytes),
+      placed-good n t (placeRead bytes) (table-made n bytes),
     )
     (rw (and-comm (goodTable t) (exactUpTo bytes n)))

@@ -19,7 +19,7 @@ use Rattle.kernel.specs.Table.{taskAt, queueAt}
 use Rattle.rules.specs.Facts.{standing}
 use Rattle.rules.proofs.Made.{Made}
 use Rattle.image.specs.Bytes.{recordAt}
-use Rattle.image.specs.Record.{recordLength, atPlace, taskFrom, placeIn}
+use Rattle.image.specs.Record.{recordLength, atPlace, taskFrom, placeRead}
 use Rattle.image.specs.Image.{withStored, tableUpTo, tableOf}
 use Rattle.image.proofs.Shape.{table-shaped}
 
@@ -44,12 +44,12 @@ module _ (n : ℕ) (bytes : List ℕ) where
         | no ne ↦ getD-set-other tasks m s (task m) noTask ne ∙ task-read m s (omega arith) (omega arith)
       ]
 
-  queues-made : (k : ℕ) → tableUpTo n bytes k .queues ≡ madeRows (queuesFor n) n (λ s. standing n (task s)) (placeIn bytes) k
+  queues-made : (k : ℕ) → tableUpTo n bytes k .queues ≡ madeRows (queuesFor n) n (λ s. standing n (task s)) (placeRead bytes) k
   unfolding tableUpTo withStored madeRows
   queues-made zero = refl
   queues-made (suc k) = rw (queues-made k, table-shaped n bytes k .tasks)
 
-  pub table-made : Made n (tableOf n bytes) (placeIn bytes)
+  pub table-made : Made n (tableOf n bytes) (placeRead bytes)
   table-made =
       record {
         size = table-shaped n bytes n .tasks;
@@ -58,10 +58,10 @@ module _ (n : ℕ) (bytes : List ℕ) where
       }
 
   -- a tid stands there only at its slot's place
-  pub place-found : (k p s : ℕ) → k < queuesFor n → placeAt (queueAt (tableOf n bytes) k) p ≡ markOf s → placeIn bytes s ≡ p
+  pub place-found : (k p s : ℕ) → k < queuesFor n → placeAt (queueAt (tableOf n bytes) k) p ≡ markOf s → placeRead bytes s ≡ p
   place-found k p s h e =
-      made-place (queuesFor n) n n _ (placeIn bytes) k p s h (ap (λ (rows : List Queue). placeAt (rowAt rows k) p) (sym (queues-made n)) ∙ e)
+      made-place (queuesFor n) n n _ (placeRead bytes) k p s h (ap (λ (rows : List Queue). placeAt (rowAt rows k) p) (sym (queues-made n)) ∙ e)
 
 -- a slot's place is the fourth byte of its record
-pub place-byte : (bytes : List ℕ) (s : ℕ) → placeIn bytes s ≡ getD bytes (s * recordLength + atPlace) 0
+pub place-byte : (bytes : List ℕ) (s : ℕ) → placeRead bytes s ≡ getD bytes (s * recordLength + atPlace) 0
 place-byte bytes s = let l : atPlace < recordLength = omega arith in rw (getD-take, getD-drop)

@@ -17,7 +17,7 @@ use Rattle.image.specs.declared.fields.TaskRead.{TaskRead}
 use Rattle.image.specs.declared.stored.Decoded.{Decoded}
 use Rattle.image.specs.Bytes.{recordAt}
 use Rattle.image.specs.ResultParts.{resultPartsOf}
-use Rattle.image.specs.Record.{recordLength, atState, atPlace, atSpare, byteIn, partsOf, partsIn, resultPartsIn, stateFrom, resultOf, taskFrom, placeIn}
+use Rattle.image.specs.Record.{recordLength, atState, atPlace, atSpare, byteIn, partsOf, partsIn, resultPartsIn, stateFrom, resultOf, taskFrom, placeRead}
 use Rattle.image.specs.Image.{tableOf}
 
 abbrev pub sameParts : Parts → Parts → Bool
@@ -72,4 +72,4 @@ decodedOf n bytes = record { table = tableOf n bytes; exact = exactUpTo bytes n 
 
 -- what is asked of the table that was read: whether each task stands at the place that its record gives, and which slot is active
 abbrev pub checkedPlaced : Table → List ℕ → Checked
-checkedPlaced t bytes = record { good = goodPlaced t (placeIn bytes); active = activeSlot t }
+checkedPlaced t bytes = record { good = goodPlaced t (placeRead bytes); active = activeSlot t }

@@ -5,6 +5,7 @@ use Prim.Native.Nat.{ℕ}
 abbrev pub slotCount : ℕ
 slotCount = 32
 
+-- 0 is the most urgent, and the last number the least
 abbrev pub priorities : ℕ
 priorities = 32
 

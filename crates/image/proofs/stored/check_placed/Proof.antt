@@ -23,14 +23,14 @@ use Rattle.task.specs.Standing.{queueOf}
 use Rattle.kernel.proofs.Owned.{owned-shaped}
 use Rattle.rules.specs.Check.{goodSlot, goodPlaced}
 use Rattle.rules.proofs.Walk.{asked-more, used-found, active-found}
-use Rattle.image.specs.Record.{placeIn}
+use Rattle.image.specs.Record.{placeRead}
 use Rattle.image.proofs.Placed.{place-byte}
 use Rattle.image.proofs.stored.check_placed.Statement.{statement}
 use Rattle.image.proofs.stored.check_placed.Tie as tie
 
 -- a slot of key k stands at its place
 abbrev stands : List Queue → List ℕ → ℕ → ℕ → Bool
-stands queues bytes k j = leb queueCount k || standsAt (rowAt queues k) (placeIn bytes j) (markOf j)
+stands queues bytes k j = leb queueCount k || standsAt (rowAt queues k) (placeRead bytes j) (markOf j)
 
 -- what is asked of a slot
 abbrev asks : List Task → List Queue → List ℕ → ℕ → ℕ → ℕ → Bool
@@ -84,7 +84,7 @@ returns c =
     let used = found .before .used-slots .ensures ∙ used-found slotCount t size in
     let active = found .first-active .ensures ∙ active-found slotCount t size in
     let end : at .loop .s ≡ slotCount = omega arith in
-    let good : at .loop .good ≡ goodPlaced t (placeIn bytes) =
+    let good : at .loop .good ≡ goodPlaced t (placeRead bytes) =
     at .loop .inv .1 ∙ rw (end, alone .single .ensures, alone .before .active-if-ready .ensures, used, active, size) in
     λ i. record { good = good i; active = active i }
 
