@@ -12,7 +12,8 @@ use Rattle.kernel.specs.Decide.{decide}
 use Rattle.rules.specs.Good.{goodResult}
 use Rattle.rules.specs.Facts.{Good}
 
--- it leaves a good table of n slots, and does not say that it met a broken one;
+-- it leaves a good table of n slots, and does not say that it met a broken one (`Good` are the facts behind the test `goodTable`, and
+-- hold exactly where it passes);
 -- it shows nothing, a value that is not negative from a tid at most n, or a fault of 1, 2 or 3
 pub record Sound (n : ℕ) (d : Decision) : Type 0 where
   pub good : Good n (d .table)
