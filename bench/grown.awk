@@ -10,8 +10,6 @@ function row(title, name,    i, line, some) {
 }
 BEGIN { count = split(sizes, size, " ") }
 { figure[$1, $2] = $3 - $4 }
-# what is left of reading an image once its records are decoded
-$1 == "apart-judged" { figure["apart-check", $2] = $3 - figure["apart-decode", $2] }
 /^seconds-/ && !seen[$1]++ { proof[++proofs] = $1 }
 END {
     line = "| |"
@@ -23,11 +21,12 @@ END {
     print line "\n" rule
     row("a call of the byte entry, " tasks " tasks, instructions", "entry")
     row("the peer's", "peer-entry")
-    row("decode", "apart-decode")
-    row("check", "apart-check")
-    row("decide", "apart-decide_at")
+    row("first pass", "apart-surveyed")
+    row("the rest is blank", "apart-rest_blank")
+    row("second pass", "apart-all_judged")
+    row("the kind's work", "apart-turned")
+    row("the end of the entry", "apart-settled")
     row("areas", "apart-apply")
-    row("write", "apart-store")
     row("a step in memory, instructions", "step")
     row("code on a Cortex-M4, bytes", "code")
     row("stack of `kernel_step` there, bytes", "kernel_step")

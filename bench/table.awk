@@ -32,8 +32,6 @@ function head(title,    i, line, rule) {
 
 BEGIN { count = split(sizes, size, " ") }
 { figure[$1, $2] = $3 - $4 }
-# what is left of reading an image once its records are decoded
-$1 == "apart-judged" { figure["apart-check", $2] = $3 - figure["apart-decode", $2] }
 END {
     head("A call of the byte entry, " unit)
     row("proved", "entry")
@@ -49,11 +47,12 @@ END {
     if (!(("apart", size[1]) in figure)) exit
     print ""
     head("The byte entry by part, each with what it calls")
-    row("decode (`image::stored::decode`)", "apart-decode")
-    row("check (the rest of `image::stored::judged`)", "apart-check")
-    row("decide (`Table::decide_at`)", "apart-decide_at")
+    row("first pass: used, active, counts (`audit::survey::surveyed`)", "apart-surveyed")
+    row("the rest is blank (`audit::rest_blank`)", "apart-rest_blank")
+    row("second pass: each record and its place (`audit::places::all_judged`)", "apart-all_judged")
+    row("the kind's work (`inplace::kinds::turned`)", "apart-turned")
+    row("the end of the entry (`inplace::end::settled`)", "apart-settled")
     row("areas (`step::areas::apply`)", "apart-apply")
-    row("write (`image::stored::store`)", "apart-store")
     row("all, with the parts kept apart", "apart")
     row("of it copies (memcpy)", "apart-memcpy")
     row("of it zeros (memset)", "apart-memset")

@@ -1,24 +1,28 @@
 // The byte entry: what a C host calls. It lends bytes, and finds in them what the kernel made of its request.
 ghost use mathlib.Core.Path.{_≡_};
+ghost use lib.ListN.{length, replicate};
 ghost use Rattle.tid.specs.Sizes.{slotCount};
 ghost use Rattle.entry.specs.Entry.{call, called, startCall, startCalled, AnsweredBy};
 use image::call::ANSWER;
 use image::call::REQUEST;
 use image::call::put_answer;
 use image::call::request_from;
+use image::fields::PRIORITY;
+use image::fields::STATE;
 use image::stored::IMAGE;
-use image::stored::judged;
-use image::stored::store;
+use inplace::decide;
 use kernel::numbers::ACCEPTED;
 use kernel::numbers::BAD_ANSWER;
 use kernel::numbers::BAD_AREAS;
 use kernel::numbers::BAD_IMAGE;
+use kernel::numbers::BAD_PRIORITY;
 use kernel::numbers::BAD_RECORD;
-use kernel::numbers::BAD_TABLE;
 use kernel::table::Answer;
 use step::areas::apply;
+use task::parts::ACTIVE;
 use task::task::Result;
 use tid::sizes::AREA;
+use tid::sizes::PRIORITIES;
 use tid::sizes::SLOTS;
 
 // A refusal is answered with no next task and no result; its number is also returned.
@@ -58,23 +62,23 @@ pub extern "C" fn kernel_step(
     if areas.len() != SLOTS * AREA {
         return refuse(BAD_AREAS, &mut *answer);
     }
-    let reading = judged(&*image);
-    if ACCEPTED < reading.verdict {
-        return refuse(BAD_TABLE, &mut *answer);
-    }
-    let table = reading.table;
-    let decision = table.decide_at(reading.active, request_from(request));
-    let effect = decision.effect;
-    let next = decision.table;
-    let shown = decision.answer;
-    if ACCEPTED < shown.verdict {
-        put_answer(shown, &mut *answer);
-        return shown.verdict as u32;
-    }
+    let done = decide(&mut *image, request_from(request));
+    let effect = done.effect;
+    let shown = done.answer;
     apply(effect, &mut *areas);
-    store(next, &mut *image);
     put_answer(shown, &mut *answer);
-    ACCEPTED as u32
+    shown.verdict as u32
+}
+
+// Every byte is 0 from here on.
+fn clear(image: &mut [u8])
+    ensures { λ r. ⌜ now (image .exit) ≡ replicate (length (now (image .entry))) 0 ⌝ }
+{
+    let mut i = 0;
+    while i < image.len() {
+        image[i] = 0;
+        i += 1;
+    }
 }
 
 // A fresh kernel's image, whose first task has the priority given.
@@ -85,8 +89,11 @@ pub extern "C" fn kernel_start(priority: u32, image: &mut [u8]) -> u32
     if image.len() != IMAGE {
         return BAD_IMAGE as u32;
     }
-    let started = rules::start(priority);
-    let table = started.table;
-    store(table, &mut *image);
-    started.verdict as u32
+    clear(&mut *image);
+    if PRIORITIES <= priority as usize {
+        return BAD_PRIORITY as u32;
+    }
+    image[STATE] = ACTIVE;
+    image[PRIORITY] = priority as u8;
+    ACCEPTED as u32
 }

@@ -9,6 +9,10 @@ use Rattle.image.proofs.stored.write.Reads as write
 use Rattle.image.proofs.stored.store.Reads as store
 use Rattle.image.proofs.call.request_from.Reads as request-from
 use Rattle.image.proofs.call.put_answer.Reads as put-answer
+use Rattle.image.proofs.words.word.Reads as word
+use Rattle.image.proofs.words.short.Reads as short
+use Rattle.image.proofs.fields.result_of.Reads as result-of
+use Rattle.image.proofs.fields.fields_of.Reads as fields-of
 
 judged-determined : (κs : _) (a : _) → DeterminesResult (judged.Post κs a)
 judged-determined κs a r r′ s s′ p p′ = (p ∙⁻¹ p′, refl)
@@ -28,3 +32,15 @@ request-from-determined κs a r r′ s s′ p p′ = (p ∙⁻¹ p′, refl)
 
 put-answer-determined : (κs : _) (a : _) → Determines (put-answer.Post κs a) (λ s. now (s .1 .0))
 put-answer-determined κs a r r′ s s′ p p′ = (refl, p ∙⁻¹ p′)
+
+fields-of-determined : (κs : _) (a : _) → DeterminesResult (fields-of.Post κs a)
+fields-of-determined κs a r r′ s s′ p p′ = (p ∙⁻¹ p′, refl)
+
+result-of-determined : (κs : _) (a : _) → DeterminesResult (result-of.Post κs a)
+result-of-determined κs a r r′ s s′ p p′ = (p ∙⁻¹ p′, refl)
+
+short-determined : (κs : _) (a : _) → DeterminesResult (short.Post κs a)
+short-determined κs a r r′ s s′ p p′ = (p ∙⁻¹ p′, refl)
+
+word-determined : (κs : _) (a : _) → DeterminesResult (word.Post κs a)
+word-determined κs a r r′ s s′ p p′ = (p ∙⁻¹ p′, refl)

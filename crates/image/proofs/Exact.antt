@@ -40,7 +40,7 @@ use Rattle.image.proofs.Rebuilt.{Bytes, placeKept, keptPlace, exact-rec
 use Rattle.image.proofs.Shape.{table-shaped}
 use Rattle.image.proofs.Placed.{task-read, table-made, place-found}
 
-part-small : (bytes : List ℕ) → Bytes bytes → (at k : ℕ) → Bytes (take k (drop at bytes))
+pub part-small : (bytes : List ℕ) → Bytes bytes → (at k : ℕ) → Bytes (take k (drop at bytes))
 part-small bytes small at k i = elim (decLt i k) [
   | yes l ↦ rw (getD-take, getD-drop) (small (at + i))
   | no g ↦
@@ -48,16 +48,16 @@ part-small bytes small at k i = elim (decLt i k) [
       omega (arith, List·getD-eq-default (take k (drop at bytes)) 0 {n = i} past)
 ]
 
-in-order-same : (f h : ℕ → List ℕ) (k : ℕ) → ((s : ℕ) → s < k → f s ≡ h s) → inOrder f k ≡ inOrder h k
+pub in-order-same : (f h : ℕ → List ℕ) (k : ℕ) → ((s : ℕ) → s < k → f s ≡ h s) → inOrder f k ≡ inOrder h k
 unfolding inOrder
 in-order-same f h zero e = refl
 in-order-same f h (suc k) e = rw (in-order-same f h k (λ s l. e s (omega arith)), e k (omega arith))
 
-image-is : (t : Table) (n : ℕ) → slots t ≡ n → imageOf t ≡ inOrder (recordOf t) n
+pub image-is : (t : Table) (n : ℕ) → slots t ≡ n → imageOf t ≡ inOrder (recordOf t) n
 unfolding imageOf
 image-is t n e = rw e
 
-record-found : (t : Table) (s : ℕ) → s < slots t → recordAt recordLength (imageOf t) s ≡ recordOf t s
+pub record-found : (t : Table) (s : ℕ) → s < slots t → recordAt recordLength (imageOf t) s ≡ recordOf t s
 unfolding imageOf
 record-found t s l = recordAt-inOrder recordLength (recordOf t) (length-recordOf t) (slots t) s l
 
@@ -125,7 +125,7 @@ module _ (n : ℕ) (bytes : List ℕ) where
         exact-record r size (part-small bytes small (s * recordLength) recordLength) ∙ ap (λ (x : List ℕ). same x r) (sym again)
 
   -- the records one after another are the bytes
-  records-all : (k : ℕ) → inOrder (recordAt recordLength bytes) k ≡ take (k * recordLength) bytes
+  pub records-all : (k : ℕ) → inOrder (recordAt recordLength bytes) k ≡ take (k * recordLength) bytes
   unfolding inOrder
   records-all zero = refl
   records-all (suc k) = rw (records-all k, suc-mul) (sym (take-add (k * recordLength) recordLength bytes))

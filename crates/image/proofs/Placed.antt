@@ -44,7 +44,7 @@ module _ (n : ℕ) (bytes : List ℕ) where
         | no ne ↦ getD-set-other tasks m s (task m) noTask ne ∙ task-read m s (omega arith) (omega arith)
       ]
 
-  queues-made : (k : ℕ) → tableUpTo n bytes k .queues ≡ madeRows (queuesFor n) n (λ s. standing n (task s)) (placeRead bytes) k
+  pub queues-made : (k : ℕ) → tableUpTo n bytes k .queues ≡ madeRows (queuesFor n) n (λ s. standing n (task s)) (placeRead bytes) k
   unfolding tableUpTo withStored madeRows
   queues-made zero = refl
   queues-made (suc k) = rw (queues-made k, table-shaped n bytes k .tasks)

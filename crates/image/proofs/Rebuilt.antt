@@ -48,7 +48,7 @@ bytes-back (suc k) at r small =
     let high : (b + 256 * n) / 256 ≡ n = omega (arith, small at) in
     λ i. low i ∷ (ap (bytesOf k) high ∙ bytes-back k (suc at) r small) i
 
-number-small : (k at : ℕ) (r : List ℕ) → Bytes r → numberIn r at k < 256 ^ k
+pub number-small : (k at : ℕ) (r : List ℕ) → Bytes r → numberIn r at k < 256 ^ k
 number-small zero at r small = omega arith
 number-small (suc k) at r small = omega (arith, small at, number-small k (suc at) r small, pow-step 256 k)
 

@@ -26,42 +26,42 @@ ghost use Rattle.image.specs.Record.{recordLength, plainParts, partsOf, 
 ghost use Rattle.image.specs.Exact.{sameResultParts, statedFrom, taskRead};
 
 // A record's length, and where its fields start. The spare byte is 0.
-pub(crate) const RECORD: usize = 20;
+pub const RECORD: usize = 20;
 
-const STATE: usize = 0;
+pub const STATE: usize = 0;
 
-const PRIORITY: usize = 1;
+pub const PRIORITY: usize = 1;
 
-const PARENT: usize = 2;
+pub const PARENT: usize = 2;
 
-pub(crate) const PLACE: usize = 3;
+pub const PLACE: usize = 3;
 
-const AWAITED: usize = 4;
+pub const AWAITED: usize = 4;
 
-const RESULT: usize = 5;
+pub const RESULT: usize = 5;
 
-const MESSAGE: usize = 6;
+pub const MESSAGE: usize = 6;
 
-const REPLY: usize = 10;
+pub const REPLY: usize = 10;
 
-const FROM: usize = 14;
+pub const FROM: usize = 14;
 
-const SPARE: usize = 15;
+pub const SPARE: usize = 15;
 
-const WORD: usize = 16;
+pub const WORD: usize = 16;
 
 // The kinds of a result.
-const NOTHING: u8 = 0;
+pub const NOTHING: u8 = 0;
 
-const VALUE: u8 = 1;
+pub const VALUE: u8 = 1;
 
-const FAULT: u8 = 2;
+pub const FAULT: u8 = 2;
 
 // The greatest word: -1.
-const MINUS_ONE: u32 = 4294967295;
+pub const MINUS_ONE: u32 = 4294967295;
 
 // The numbers of a result, in a record and in an answer: its kind, the tid that it is from, and a value or a negative fault.
-pub(crate) struct ResultParts {
+pub struct ResultParts {
     pub kind: u8,
     pub from: u8,
     pub word: u32,
@@ -181,7 +181,7 @@ fn result_parts_in(r: &[u8]) -> ResultParts
     }
 }
 
-fn result_of(numbers: ResultParts) -> Result
+pub fn result_of(numbers: ResultParts) -> Result
     ensures { λ x. ⌜ x ≡ resultOf numbers ⌝ }
 {
     let from = numbers.from;
@@ -326,7 +326,7 @@ pub(crate) fn task_read(r: &[u8]) -> TaskRead
 }
 
 // The fields of a task and its place, in their order.
-fn fields_of(x: Task, place: u8) -> [u8; RECORD]
+pub fn fields_of(x: Task, place: u8) -> [u8; RECORD]
     ensures { λ r. ⌜ r ≡ fields x place ⌝ }
 {
     let state = x.state;

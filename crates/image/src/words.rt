@@ -1,37 +1,37 @@
 // Numbers in bytes, the lowest byte first.
 ghost use mathlib.Core.Path.{_≡_};
-ghost use Prim.Native.Nat.{_+_, _≤_, _<_};
+ghost use Prim.Native.Nat.{_+_, _*_, _≤_};
 ghost use lib.ListN.{length};
 ghost use lib.Seq.{paste};
 ghost use Rattle.image.specs.Bytes.{bytesOf, numberIn};
 
-// A byte as a word. As a function it asks no proof that a slice's element fits.
-fn wider(x: u8) -> u32
-    ensures { λ r. ⌜ (r ≡ x) × (r < 256) ⌝ }
+// The number of two bytes, the low one first.
+pub fn short(low: u8, high: u8) -> u32
+    ensures { λ r. ⌜ r ≡ low + 256 * high ⌝ }
 {
-    x as u32
+    low as u32 + 256 * high as u32
 }
 
-// The number of two bytes.
+// The number of four bytes.
+pub fn word(b0: u8, b1: u8, b2: u8, b3: u8) -> u32
+    ensures { λ r. ⌜ r ≡ b0 + 256 * (b1 + 256 * (b2 + 256 * b3)) ⌝ }
+{
+    b0 as u32 + 256 * (b1 as u32 + 256 * (b2 as u32 + 256 * b3 as u32))
+}
+
+// The same of bytes in a row.
 pub(crate) fn short_in(r: &[u8], at: usize) -> u32
     requires { ⌜ at + 2 ≤ length (now r) ⌝ }
     ensures { λ x. ⌜ x ≡ numberIn (now (r .entry)) at 2 ⌝ }
 {
-    let low = wider(r[at]);
-    let high = wider(r[at + 1]);
-    low + 256 * high
+    short(r[at], r[at + 1])
 }
 
-// The number of four bytes.
 pub(crate) fn word_in(r: &[u8], at: usize) -> u32
     requires { ⌜ at + 4 ≤ length (now r) ⌝ }
     ensures { λ x. ⌜ x ≡ numberIn (now (r .entry)) at 4 ⌝ }
 {
-    let b0 = wider(r[at]);
-    let b1 = wider(r[at + 1]);
-    let b2 = wider(r[at + 2]);
-    let b3 = wider(r[at + 3]);
-    b0 + 256 * (b1 + 256 * (b2 + 256 * b3))
+    word(r[at], r[at + 1], r[at + 2], r[at + 3])
 }
 
 // A number written as four bytes.

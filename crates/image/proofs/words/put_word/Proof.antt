@@ -1,4 +1,4 @@
--- `image::numbers::put_word` meets its contract, byte by byte.
+-- `image::words::put_word` meets its contract, byte by byte.
 use native.Mathlib.Omega.{arith}
 use lib.ListN.{length-set}
 use borrow.Author.Needs.{needs}

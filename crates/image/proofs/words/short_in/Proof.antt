@@ -1,4 +1,4 @@
--- `image::numbers::short_in` meets its contract: each byte is below 256.
+-- `image::words::short_in` meets its contract.
 use Prim.Native.Nat.{ℕ}
 use mathlib.Core.Path.{ap}
 use native.Mathlib.Omega.{arith}
@@ -8,15 +8,9 @@ use borrow.Author.Needs.{needs}
 use Rattle.image.proofs.words.short_in.Statement.{statement}
 use Rattle.image.proofs.words.short_in.Tie as tie
 
-mul-result : tie.Need-mul-result
-mul-result c = omega arith
-
-add-result : tie.Need-add-result
-add-result c = omega arith
-
 returns : tie.Need-returns
 returns c =
-    let start = c .before .before .before .before .before in
+    let start = c .before .before .before .before in
     let next = ap (λ (k : ℕ). getD (start .args .r .now) k 0) (add-one (start .args .at)) in
     omega (arith, next)
 
@@ -25,10 +19,7 @@ short-in-spec =
     tie.close
     (tie.spec
     (λ c. search needs)
-    (λ c κs. search needs)
     (λ c. search needs)
     (λ c. search needs)
     (λ c κs. search needs)
-    mul-result
-    add-result
     returns)

@@ -1,4 +1,4 @@
--- `image::numbers::word_in` meets its contract: each byte is below 256.
+-- `audit::sound::word_in` meets its contract.
 use Prim.Native.Nat.{ℕ}
 use mathlib.Core.Path.{ap}
 use native.Mathlib.Numerals.{add-one, add-two, add-three}
@@ -8,27 +8,9 @@ use borrow.Author.Needs.{needs}
 use Rattle.image.proofs.words.word_in.Statement.{statement}
 use Rattle.image.proofs.words.word_in.Tie as tie
 
-mul-result : tie.Need-mul-result
-mul-result c = omega arith
-
-add-result : tie.Need-add-result
-add-result c = omega arith
-
-mul-result-2 : tie.Need-mul-result-2
-mul-result-2 c = omega arith
-
-add-result-2 : tie.Need-add-result-2
-add-result-2 c = omega arith
-
-mul-result-3 : tie.Need-mul-result-3
-mul-result-3 c = omega arith
-
-add-result-3 : tie.Need-add-result-3
-add-result-3 c = omega arith
-
 returns : tie.Need-returns
 returns c =
-    let start = c .before .before .before .before .before .before .before .before .before in
+    let start = c .before .before .before .before .before .before in
     let at : ℕ = start .args .at in
     let byte : ℕ → ℕ = λ k. getD (start .args .r .now) k 0 in
     omega (arith, ap byte (add-one at), ap byte (add-two at), ap byte (add-three at))
@@ -38,20 +20,11 @@ word-in-spec =
     tie.close
     (tie.spec
     (λ c. search needs)
-    (λ c κs. search needs)
+    (λ c. search needs)
+    (λ c. search needs)
+    (λ c. search needs)
+    (λ c. search needs)
     (λ c. search needs)
     (λ c. search needs)
     (λ c κs. search needs)
-    (λ c. search needs)
-    (λ c. search needs)
-    (λ c κs. search needs)
-    (λ c. search needs)
-    (λ c. search needs)
-    (λ c κs. search needs)
-    mul-result
-    add-result
-    mul-result-2
-    add-result-2
-    mul-result-3
-    add-result-3
     returns)

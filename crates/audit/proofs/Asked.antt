@@ -1,0 +1,243 @@
+-- What the passes ask is whether the bytes are the image of a good table, and then they found its parts.
+use Prim.Native.Nat.{ℕ, _*_, _≤_, _<_}
+use mathlib.Core.Path.{_≡_, sym, ap, _∙_, subst}
+use mathlib.Core.Logic.{_≢_, ⊎-elim}
+use mathlib.Core.Bool.{true, _&&_}
+use mathlib.Core.List.{List}
+use native.Mathlib.Omega.{arith}
+use native.Mathlib.Decide.{decLt}
+use lib.ListN.{length, getD}
+use lib.Dec.{eqb}
+use borrow.Author.Tests.{eqb-true, eqb-false, eq-eqb, ne-eqb, ltb-true, lt-ltb}
+use Rattle.queue.specs.Numbering.{eventQueue, sendQueue, queuesFor}
+use Rattle.queue.specs.Row.{placeAt}
+use Rattle.queue.specs.Facts.{RowsFacts}
+use Rattle.queue.proofs.Below.{both-true, true-both, same-test, all-below, below-all, First, first-below, first-same}
+use Rattle.tid.specs.Tid.{slotOf}
+use Rattle.task.specs.declared.task.Task.{Task}
+use Rattle.task.specs.Task.{stateCode}
+use Rattle.task.proofs.Stands.{stands-in}
+use Rattle.kernel.specs.declared.table.Table.{Table}
+use Rattle.kernel.specs.Table.{taskAt, queueAt, activeSlot, usedSlots}
+use Rattle.rules.specs.Good.{goodUsed, goodTable}
+use Rattle.rules.specs.Facts.{TasksFacts, Single, Rules, Good}
+use Rattle.rules.proofs.Good.{used-facts, facts-used, first-active, good-facts, facts-good, rules-good}
+use Rattle.image.specs.Bytes.{recordAt}
+use Rattle.image.specs.Record.{recordLength, atState, atPlace, byteAt}
+use Rattle.image.specs.Image.{tableOf, isImage}
+use Rattle.image.specs.Exact.{exactRecord, exactUpTo}
+use Rattle.image.proofs.Bytes.{byte-in}
+use Rattle.image.proofs.Exact.{image-exact}
+use Rattle.image.proofs.Rebuilt.{Bytes}
+use Rattle.image.proofs.Shape.{table-shaped}
+use Rattle.audit.specs.Survey.{queueIn, usedIn, activeUpTo, countUpTo}
+use Rattle.audit.specs.Sound.{recordSound}
+use Rattle.audit.specs.Audit.{asked}
+use Rattle.audit.proofs.SoundRecord.{sound-record}
+use Rattle.audit.proofs.Counts.{Last, active-last}
+use Rattle.audit.proofs.Ranks.{Filled, row-many, rows-fit, fit-rows}
+use Rattle.audit.proofs.Exact.{blank-exact, exact-blank, queue-none, task-none, task-past, task-is, keys-are, rows-filled, record-small, code-is, waits-first}
+use Rattle.audit.proofs.Fine.{Fine, asked-fine, fine-asked}
+
+module _ (n : ℕ) (b : List ℕ) (whole : length b ≡ n * recordLength) (small : Bytes b) where
+  abbrev t : Table
+  t = tableOf n b
+
+  abbrev rec : ℕ → List ℕ
+  rec s = recordAt recordLength b s
+
+  abbrev used : ℕ
+  used = usedIn n b
+
+  abbrev active : ℕ
+  active = activeUpTo n b used
+
+  first : First 0 n (λ s. eqb (byteAt b s atState) 0) used
+  first = first-below n (λ s. eqb (byteAt b s atState) 0)
+
+  last : Last n b used active
+  last = active-last n b used (first .most)
+
+  -- a used record has a code
+  some-code : (s : ℕ) → s < used → byteAt b s atState ≢ 0
+  some-code s l = eqb-false (byteAt b s atState) 0 (first .before s (omega arith) l)
+
+  -- a record is sound exactly where it is exact and its task keeps the rules of one slot
+  sound-is : (s : ℕ) → s < used → recordSound used s (rec s) ≡ (exactRecord (rec s) && goodUsed used s (taskAt t s))
+  sound-is s l =
+      let h : s < n = omega (arith, first .most) in
+      rw (task-is n b whole s)
+      (sound-record used s (rec s) (record-small n b whole small s h)
+      (λ e. some-code s l (sym (byte-in b s atState (omega arith)) ∙ e)))
+
+  -- The records from the used ones on are unused: a record that has a code is used, and the rows are filled as was counted.
+
+  module _ (rest : (s : ℕ) → used ≤ s → s < n → byteAt b s atState ≡ 0) where
+    within : (s : ℕ) → s < n → byteAt b s atState ≢ 0 → s < used
+    within s h some = elim (decLt s used) [ yes l ↦ l | no g ↦ absurd (some (rest s (omega arith) h)) ]
+
+    filled : Filled (queuesFor n) n (λ k. getD (countUpTo n b used) k 0) (queueIn n b) (λ s. byteAt b s atPlace) (t .queues)
+    filled = rows-filled n b whole used (first .most) rest
+
+  -- The records are fine, so the table is good.
+
+  module _ (f : Fine n b used active (countUpTo n b used)) where
+    fine-rest : (s : ℕ) → used ≤ s → s < n → byteAt b s atState ≡ 0
+    fine-rest s g h = f .blank s g h atState (omega arith)
+
+    fine-within : (s : ℕ) → s < n → byteAt b s atState ≢ 0 → s < used
+    fine-within = within fine-rest
+
+    fine-sound : (s : ℕ) → s < used → (exactRecord (rec s) ≡ true) × (goodUsed used s (taskAt t s) ≡ true)
+    fine-sound s l = both-true (exactRecord (rec s)) _ (sym (sound-is s l) ∙ f .each s l .sound)
+
+    fine-exact : (s : ℕ) → s < n → exactRecord (rec s) ≡ true
+    fine-exact s h = elim (decLt s used) [
+      | yes l ↦ fine-sound s l .0
+      | no g ↦ blank-exact b s (fine-rest s (omega arith) h) (f .blank s (omega arith) h)
+    ]
+
+    fine-code : (s : ℕ) → s < n → stateCode (taskAt t s .state) ≡ byteAt b s atState
+    fine-code s h = code-is n b whole small s h (fine-exact s h)
+
+    tasks : TasksFacts n used active (taskAt t)
+    tasks =
+        record {
+          some = f .some;
+          fits = first .most;
+          each = λ s l.
+              let some : 0 < stateCode (taskAt t s .state) = omega (arith, some-code s l, fine-code s (omega (arith, first .most))) in
+              used-facts used s (taskAt t s) (lt-ltb 0 (stateCode (taskAt t s .state)) some) (fine-sound s l .1);
+          unused = λ s g. elim (decLt s n) [
+            | yes h ↦ task-is n b whole s ∙ task-none b s (fine-rest s g h)
+            | no past ↦ task-past n b s (omega arith)
+          ];
+          only-active = λ s h e.
+              let one : byteAt b s atState ≡ 1 = sym (fine-code s h) ∙ eqb-true _ 1 e in
+              f .each s (fine-within s h (λ z. omega arith)) .alone one;
+        }
+
+    rows : RowsFacts n (t .queues) (queueIn n b)
+    rows =
+        fit-rows (filled fine-rest)
+        (λ s h l. f .each s (fine-within s h (λ z. omega (arith, queue-none b s z n))) .fit l)
+
+    -- whoever waits for an event has the place 0, so that nobody has the place 1
+    single : Single (t .queues)
+    single e h = elim (decLt 1 (queueAt t (eventQueue e) .len)) [
+      | yes two ↦
+          let k = eventQueue e in
+          let made = filled fine-rest .made in
+          let s = slotOf (placeAt (queueAt t k) 1) in
+          let mark = rows .row k (omega (arith, made .count)) .mark 1 two in
+          let (l, own, second) = made .row k (omega arith) .filled 1 s (omega arith) in
+          ⊎-elim
+          (λ ready. absurd (omega (arith, tasks .each s (fine-within s l (λ z. omega (arith, fine-code s l))) .priority)))
+          (⊎-elim
+          (λ sends. absurd (omega arith))
+          (λ waits. absurd (omega (arith, waits-first n b whole small s l (fine-exact s l) (waits .0)))))
+          (stands-in (queuesFor n) (taskAt t s) {k = k} (ap (λ (key : ℕ → ℕ). key s) (keys-are n b whole) ∙ own) (omega arith))
+      | no g ↦ omega arith
+    ]
+
+    fine-good : Good n t
+    fine-good =
+        rules-good
+        (record {
+          size = table-shaped n b n .tasks;
+          tasks = tasks;
+          lined = record {
+            shaped = table-shaped n b n .queues;
+            holds = subst (λ (key : ℕ → ℕ). RowsFacts n (t .queues) key) (sym (keys-are n b whole)) rows;
+          };
+          quiet = λ s h e.
+              let three : byteAt b s atState ≡ 3 = sym (fine-code s h) ∙ eqb-true _ 3 e in
+              row-many (filled fine-rest) rows (sendQueue s) (omega arith) ∙ f .each s (fine-within s h (λ z. omega arith)) .quiet three;
+          single = single;
+        })
+        (last .most)
+        (λ l. eq-eqb _ 1 (fine-code active l ∙ last .some l .1))
+        (λ none p l. row-many (filled fine-rest) rows p (omega arith) ∙ f .ready none p l)
+
+    fine-image : isImage n b ≡ true
+    fine-image =
+        image-exact n b whole small
+        ∙ true-both (facts-good n t fine-good) (below-all n (λ s. exactRecord (rec s)) fine-exact)
+
+  -- The bytes are an image, so the records are fine.
+
+  module _ (e : isImage n b ≡ true) where
+    image-both : (goodTable t ≡ true) × (exactUpTo b n ≡ true)
+    image-both = both-true (goodTable t) _ (sym (image-exact n b whole small) ∙ e)
+
+    good : Good n t
+    good = good-facts n t (table-shaped n b n) (image-both .0)
+
+    exact : (s : ℕ) → s < n → exactRecord (rec s) ≡ true
+    exact = all-below n (λ s. exactRecord (rec s)) (image-both .1)
+
+    code : (s : ℕ) → s < n → stateCode (taskAt t s .state) ≡ byteAt b s atState
+    code s h = code-is n b whole small s h (exact s h)
+
+    -- the task of an unused slot has no code
+    unused : (s : ℕ) → usedSlots t ≤ s → s < n → byteAt b s atState ≡ 0
+    unused s g h = sym (code s h) ∙ ap (λ (x : Task). stateCode (x .state)) (good .rules .tasks .unused s g)
+
+    pub image-used : usedIn n b ≡ usedSlots t
+    image-used =
+        first-same first
+        (record {
+          least = omega arith;
+          most = good .rules .tasks .fits;
+          before = λ s _ l.
+              let some = ltb-true 0 (stateCode (taskAt t s .state)) (good .rules .tasks .each s l .is-used) in
+              ne-eqb (byteAt b s atState) 0 (λ z. omega (arith, code s (omega (arith, good .rules .tasks .fits))));
+          passes = λ l. eq-eqb _ 0 (unused (usedSlots t) (omega arith) l);
+        })
+
+    rest : (s : ℕ) → used ≤ s → s < n → byteAt b s atState ≡ 0
+    rest s g h = unused s (omega (arith, image-used)) h
+
+    -- every active record is the table's active slot, so that the last is
+    pub image-active : activeUpTo n b (usedIn n b) ≡ activeSlot t
+    image-active = elim (decLt active n) [
+      | yes l ↦ good .rules .tasks .only-active active l (eq-eqb _ 1 (code active l ∙ last .some l .1))
+      | no g ↦ elim (decLt (activeSlot t) n) [
+        | yes l ↦
+            let one : byteAt b (activeSlot t) atState ≡ 1 =
+            sym (code (activeSlot t) l) ∙ eqb-true _ 1 (first-active t .passes (omega (arith, good .rules .size))) in
+            absurd (last .none (omega arith) (activeSlot t) (within rest (activeSlot t) l (λ z. omega arith)) one)
+        | no past ↦ omega (arith, last .most, first-active t .most, good .rules .size)
+      ]
+    ]
+
+    holds : RowsFacts n (t .queues) (queueIn n b)
+    holds = subst (λ (key : ℕ → ℕ). RowsFacts n (t .queues) key) (keys-are n b whole) (good .rules .lined .holds)
+
+    pub image-counted : (k : ℕ) → k < queuesFor n → getD (countUpTo n b (usedIn n b)) k 0 ≡ queueAt t k .len
+    image-counted k h = sym (row-many (filled rest) holds k h)
+
+    rules : Rules n used active t
+    rules = rw (image-active, image-used) (good .rules)
+
+    image-fine : Fine n b used active (countUpTo n b used)
+    image-fine =
+        record {
+          some = rules .tasks .some;
+          blank = λ s g h. exact-blank b s (rest s g h) (exact s h);
+          each = λ s l.
+              let h : s < n = omega (arith, first .most) in
+              record {
+                alone = λ one. rules .tasks .only-active s h (eq-eqb _ 1 (code s h ∙ one));
+                quiet = λ three. image-counted (sendQueue s) (omega arith) ∙ rules .quiet s h (eq-eqb _ 3 (code s h ∙ three));
+                sound = sound-is s l ∙ true-both (exact s h) (facts-used used s (taskAt t s) (rules .tasks .each s l));
+                fit = rows-fit (filled rest) holds s h;
+              };
+          ready = λ none p l. image-counted p (omega arith) ∙ good .active-if-ready (omega (arith, image-active)) p l;
+        }
+
+  pub asked-image : let used = usedIn n b in asked n b used (activeUpTo n b used) (countUpTo n b used) ≡ isImage n b
+  asked-image =
+      same-test
+      (λ e. fine-image (asked-fine n b used active (countUpTo n b used) e))
+      (λ e. fine-asked n b used active (countUpTo n b used) (image-fine e))

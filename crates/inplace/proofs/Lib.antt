@@ -1,0 +1,9 @@
+pub mod Loops
+pub mod Buffers
+pub mod Ways
+pub mod Requests
+pub mod Messages
+pub mod Events
+pub mod Dispatched
+pub mod Decisions
+mod Determined

@@ -1,0 +1,117 @@
+-- What each way of a request leaves: the turn in place stands for the turn of the table that the bytes give. Here what all share, the
+-- kinds that only tell a number, Exit and Create.
+use Prim.Native.Nat.{ℕ, _+_, _≤_, _<_}
+use mathlib.Core.Path.{_≡_, refl, sym}
+use mathlib.Core.Logic.{_≢_}
+use mathlib.Core.Bool.{true, false, false≢true}
+use mathlib.Core.List.{List}
+use native.Mathlib.Omega.{arith}
+use lib.ListN.{getD}
+use lib.Seq.{getD-set-other}
+use borrow.Author.Tests.{eq-eqb, ne-eqb, le-leb, lt-leb}
+use Rattle.tid.specs.Sizes.{priorities}
+use Rattle.tid.specs.Tid.{markOf, tidOf}
+use Rattle.queue.specs.Numbering.{places, sendQueue}
+use Rattle.queue.specs.Row.{emptyRow, aloneRow, pushedRow}
+use Rattle.task.specs.declared.task.Result.{Result}
+use Rattle.task.specs.declared.task.Result.the-variants.{Nothing, Value, Fault}
+use Rattle.task.specs.declared.task.State.{State}
+use Rattle.task.specs.declared.task.State.the-variants.{Ready, Exited}
+use Rattle.task.specs.Task.{firstNegative, noTask, isActive, isReady, isSendBlocked}
+use Rattle.kernel.specs.declared.table.Effect.the-variants.{Keep}
+use Rattle.kernel.specs.Table.{slots, taskAt, queueAt, usedSlots}
+use Rattle.kernel.specs.Moves.{woken}
+use Rattle.kernel.specs.Turn.{resumes, stops}
+use Rattle.kernel.specs.Kinds.{newTask, create, myTid, myParentTid, yield, exit}
+use Rattle.rules.specs.Good.{goodResult, goodState}
+use Rattle.rules.proofs.Good.{used-slots}
+use Rattle.kept.proofs.Tasks.{codeAt, same-code, isFree, free, apart, parent-before, value-good}
+use Rattle.kept.proofs.Moves.{slot-used, waking-one}
+use Rattle.image.specs.Record.{atParent, fields, byteAt}
+use Rattle.image.specs.Image.{tableOf}
+use Rattle.records.specs.Records.{withRecord}
+use Rattle.records.specs.Stage.{joinedBytes, joinedCount}
+use Rattle.records.proofs.Tasks.{byte-parent}
+use Rattle.records.proofs.Replaces.{adds-stage}
+use Rattle.inplace.specs.Ends.{Begins, resumesAt, stopsAt, Ends}
+use Rattle.inplace.proofs.Ways.{Woke, nobody-woke, slot-woke, goes-on-ends, halts-ends}
+
+module _ {n used c : ℕ} {b count : List ℕ} (g : Begins n used c b count) (small : n < 255) (running : c < n) where
+  pub caller-used : c < used
+  caller-used = slot-used (g .stage .rules) (rw (g .runs running))
+
+  nobody-wakes : Woke n used c n Nothing (emptyRow places) (tableOf n b) b count (tableOf n b) b count
+  nobody-wakes = nobody-woke (g .stage) small (g .near) (g .runs) Nothing (emptyRow places) refl
+
+  -- the caller goes on with a result
+  pub resumes-ends : (o : Result) → goodResult used o ≡ true → Ends n c (resumes (tableOf n b) o) (resumesAt n used o) b count
+  resumes-ends o good = goes-on-ends nobody-wakes Keep running o good
+
+  number-ends : (v : ℕ) → v < firstNegative → Ends n c (resumes (tableOf n b) (Value 0 v)) (resumesAt n used (Value 0 v)) b count
+  number-ends v low = resumes-ends (Value 0 v) (value-good used v 0 low (omega arith))
+
+  pub my-tid-ends : Ends n c (myTid (tableOf n b) c) (resumesAt n used (Value 0 (tidOf c))) b count
+  unfolding myTid
+  my-tid-ends = number-ends (tidOf c) (omega arith)
+
+  pub my-parent-tid-ends : Ends n c (myParentTid (tableOf n b) c) (resumesAt n used (Value 0 (byteAt b c atParent))) b count
+  unfolding myParentTid
+  my-parent-tid-ends =
+      let parent = taskAt (tableOf n b) c .parent in
+      let before : parent ≤ c = parent-before c parent (g .stage .rules .tasks .each c caller-used .parent) in
+      rw (byte-parent (g .stage) c running) (number-ends parent (omega arith))
+
+  pub yield-ends : Ends n c (yield (tableOf n b)) (resumesAt n used (Value 0 0)) b count
+  unfolding yield
+  yield-ends = number-ends 0 (omega arith)
+
+  -- the caller stops, and stands in no queue
+  pub stops-ends : (st : State) → isReady st ≡ false → isFree st ≡ true → isActive st ≡ false → goodState used c st ≡ true
+      → (isSendBlocked st ≡ true → queueAt (tableOf n b) (sendQueue c) .len ≡ 0)
+      → Ends n c (stops (tableOf n b) st) (stopsAt n used st 0) b count
+  stops-ends = halts-ends nobody-wakes Keep running
+
+  pub exit-ends : Ends n c (exit (tableOf n b)) (stopsAt n used Exited 0) b count
+  unfolding exit
+  exit-ends = stops-ends Exited refl refl refl refl (λ e. absurd (false≢true e))
+
+  -- a free task is woken alone
+  pub one-wakes : (s code : ℕ) (told : Result) → codeAt (tableOf n b) s ≡ code → isFree (taskAt (tableOf n b) s .state) ≡ true → code ≢ 1 → goodResult used told ≡ true
+      → Woke n used c s told (aloneRow (markOf s)) (tableOf n b) b count (woken (tableOf n b) (markOf s) told) (joinedBytes b count s told) (joinedCount b count s)
+  unfolding pushedRow
+  one-wakes s code told is free-one other good =
+      let old = g .stage in
+      let l : s < used = slot-used (old .rules) (free n (taskAt (tableOf n b) s) free-one .is-used) in
+      slot-woke (record { rules = waking-one (old .rules) s free-one; records = old .records; counts = old .counts; long = old .long })
+      small (g .near) (g .runs) s told (aloneRow (markOf s)) l (eq-eqb s s refl) (λ j _ ne. ne-eqb j s ne)
+      (apart (tableOf n b) 1 code (g .runs running) is (λ e. other (sym e))) good refl refl
+
+  -- Create.
+  module _ (p : ℕ) where
+    pub create-unknown : priorities ≤ p → Ends n c (create (tableOf n b) c p) (resumesAt n used (Fault 1)) b count
+    unfolding create
+    create-unknown past = rw (le-leb priorities p past) (resumes-ends (Fault 1) refl)
+
+    module _ (low : p < priorities) where
+      first-free : usedSlots (tableOf n b) ≡ used
+      first-free = used-slots (g .stage .rules)
+
+      pub create-full : n ≤ used → Ends n c (create (tableOf n b) c p) (resumesAt n used (Fault 2)) b count
+      unfolding create
+      create-full full =
+          rw (lt-leb priorities p low, first-free, le-leb (slots (tableOf n b)) used (omega (arith, g .stage .rules .size))) (resumes-ends (Fault 2) refl)
+
+      -- the new task is woken, and the caller goes on behind it
+      pub create-adds : used < n → Ends n c (create (tableOf n b) c p)
+          (record { used = used + 1; woken = used; told = Nothing; state = Ready; place = 0; result = Value 0 (tidOf used); effect = Keep })
+          (withRecord b used (fields (newTask p c) (getD count p 0))) count
+      unfolding create pushedRow
+      create-adds room =
+          let x = newTask p c in
+          let other : c ≢ used = λ e. omega (arith, caller-used) in
+          let added = rw first-free at (adds-stage (g .stage) p c room low caller-used) in
+          rw (lt-leb priorities p low, first-free, lt-leb (slots (tableOf n b)) used (omega (arith, g .stage .rules .size)))
+          (goes-on-ends
+          (slot-woke added small (g .near) (λ _. same-code (getD-set-other (tableOf n b .tasks) used c x noTask other) (g .runs running)) used Nothing (aloneRow (markOf used))
+          (omega arith) (eq-eqb used used refl) (λ j _ ne. ne-eqb j used ne) other refl refl refl)
+          Keep running (Value 0 (tidOf used)) (value-good (used + 1) (tidOf used) 0 (omega arith) (omega arith)))

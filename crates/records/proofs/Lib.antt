@@ -1,0 +1,12 @@
+pub mod Records
+pub mod Images
+pub mod Tasks
+pub mod Rows
+pub mod Changes
+pub mod Joins
+pub mod Replaces
+pub mod Vacates
+pub mod Told
+pub mod Heads
+pub mod Leaves
+pub mod Fresh

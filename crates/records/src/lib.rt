@@ -1,0 +1,1 @@
+// Theorems alone: what each move of an entry does to the records of an image.
