@@ -39,7 +39,7 @@ END {
     ratio("proved to peer", "entry", "peer-entry")
     print ""
     head("A step in memory, " unit)
-    row("proved, `step::proceed`", "step")
+    row("proved, `step::step`", "step")
     row("peer", "peer-memory")
     row("plain C, no check", "plain-memory")
     ratio("proved to plain C", "step", "plain-memory")

@@ -4,6 +4,7 @@
 #   run        what runs that program here
 #   packages   Debian's, that have both
 # and `describe` alone prints the names of all.
+# shellcheck shell=sh disable=SC2034,SC2119,SC2120
 
 fail() {
     echo "board: $*" >&2
@@ -12,6 +13,15 @@ fail() {
 
 need() { # TOOL WHERE..
     command -v "$1" >/dev/null || fail "$1 is missing; it is in: $(shift; echo "$@")"
+}
+
+# Ends a command, with status 2, at a word that is no target.
+all_known() { # COMMAND WORDS..
+    command=$1
+    shift
+    for word; do
+        describe | tr ' ' '\n' | grep -qxF -e "$word" || { echo "$command: '$word' is no target ($command --help)" >&2; exit 2; }
+    done
 }
 
 # Where the kit stands, the folder of its compiler within it, and the compiler.

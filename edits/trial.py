@@ -22,6 +22,12 @@ def depends():
     return {name.strip(): deps.split() for name, colon, deps in lines if colon}
 
 
+def wrong_word(command, why):
+    """Ends a command that was given a wrong word."""
+    print(f"{command}: {why} ({command} --help)", file=sys.stderr)
+    sys.exit(2)
+
+
 def root_of(folder):
     program = folder / "src" / "main.rt"
     return program if program.exists() else folder / "src" / "lib.rt"

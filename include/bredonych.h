@@ -82,9 +82,9 @@ enum bredonych_fault {
     BREDONYCH_EVENT_DATA = -2        /* told to the waiting task: the data was negative */
 };
 
-/* Starts a kernel: writes the image in which task 1, of this priority, is active, and answers 0. An image of another length
- * is refused by 7 and not written; a priority outside 0 to 31 is refused by 6, and the image is then all zero: every slot is
- * unused, and each step of it is refused by 2. The areas are the host's to clear. */
+/* Starts a kernel: writes the image in which task 1, of this priority, is active, and answers 0. A priority outside 0 to 31
+ * is refused by 6, whatever the image's length; then an image that is not 640 bytes by 7. A refusal writes no byte. The areas
+ * are the host's to clear. */
 uint32_t kernel_start(uint32_t priority, uint8_t *image, uint64_t image_length);
 
 /* One step: does what the request asks and answers the verdict, which is also the answer's first word. The image and the areas

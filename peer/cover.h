@@ -1,7 +1,7 @@
 /* What the comparison must have reached, and the marks that count it. Only a
  * build with -DCOVER counts; in every other build the marks vanish. Each mark
  * in kernel.c, image.c and main.c is a line of its own with MARK in it, so
- * that those files without these lines are what their author wrote. */
+ * that without these lines the first two are what their author wrote. */
 #ifndef PEER_COVER_H
 #define PEER_COVER_H
 
@@ -23,14 +23,17 @@
     X(ORDER_3_4, "refusal 3 while idle") \
     X(ORDER_4_9, "refusal 4 where 9 holds too") \
     X(IDLE_8, "refusal 8 while idle") \
-    X(START_6, "refusal 6 of a start (self test)") \
-    X(START_6_7, "refusal 6 of a start where 7 holds too (self test)") \
-    X(START_7, "refusal 7 of a start (self test)") \
+    X(START_OK, "start") \
+    X(START_6, "refusal 6 of a start") \
+    X(START_6_7, "refusal 6 of a start where 7 holds too") \
+    X(START_7, "refusal 7 of a start") \
     X(STEP_UNUSED, "refusal 2 of the all-unused table (self test)") \
     X(WRITE_UNUSED, "the all-unused table not written (self test)") \
     X(END_R5, "run ending in an incomplete record") \
     X(CASE_CUT, "cases ending in a case cut short") \
     X(CASE_LONG, "cases ending in too long a chunk") \
+    X(START_CUT, "starts ending in a record cut short") \
+    X(START_LONG, "starts ending in too long an image") \
     X(CREATE_OK, "Create") \
     X(CREATE_LAST, "Create of the 32nd task") \
     X(CREATE_PRIORITY, "Create -1") \

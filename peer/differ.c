@@ -10,7 +10,7 @@ enum { LINE = 128, CHUNK = 16384 };
 static const char *const chunk_name[] = {"image", "areas", "record",
                                          "answer"};
 
-/* What a case gave: a verdict and four chunks. */
+/* What a case gave: a verdict and four chunks; of a start only the image. */
 struct outcome {
     bool whole;
     uint32_t verdict, length[4];
@@ -95,6 +95,15 @@ static void describe(const struct outcome *a, const struct outcome *b)
     printf("no other difference\n");
 }
 
+static void tell(const struct outcome *peer, const struct outcome *other)
+{
+    if (peer->whole && other->whole)
+        describe(peer, other);
+    else
+        printf("%s\n", peer->whole ? "the other gave nothing whole"
+                                   : "the peer gave nothing whole");
+}
+
 static int cases(FILE *a, FILE *b)
 {
     static struct outcome peer, other;
@@ -103,11 +112,7 @@ static int cases(FILE *a, FILE *b)
         get_outcome(b, &other);
         if (memcmp(&peer, &other, sizeof peer) != 0) {
             printf("case %lu: ", number);
-            if (peer.whole && other.whole)
-                describe(&peer, &other);
-            else
-                printf("%s\n", peer.whole ? "the other gave nothing whole"
-                                          : "the peer gave nothing whole");
+            tell(&peer, &other);
             return 1;
         }
         if (!peer.whole)
@@ -115,14 +120,52 @@ static int cases(FILE *a, FILE *b)
     }
 }
 
+static void get_started(FILE *f, uint32_t length, struct outcome *o)
+{
+    memset(o, 0, sizeof *o);
+    if (!get_word(f, &o->verdict))
+        return;
+    o->length[0] = length;
+    o->whole = fread(o->bytes[0], 1, length, f) == length;
+}
+
+/* Only the input says how long each image is. */
+static int starts(FILE *a, FILE *b, FILE *in)
+{
+    static struct outcome peer, other;
+    uint32_t priority, length;
+    for (unsigned long number = 1; get_word(in, &priority) &&
+                                   get_word(in, &length) && length <= CHUNK;
+         number++) {
+        get_started(a, length, &peer);
+        get_started(b, length, &other);
+        if (memcmp(&peer, &other, sizeof peer) != 0) {
+            printf("start %lu, priority %lu, length %lu: ", number,
+                   (unsigned long)priority, (unsigned long)length);
+            tell(&peer, &other);
+            return 1;
+        }
+    }
+    bool more = getc(a) != EOF;
+    if (!more && getc(b) == EOF)
+        return 0;
+    printf("after the last start: %s gave more\n", more ? "the peer"
+                                                        : "the other");
+    return 1;
+}
+
 int main(int argc, char **argv)
 {
-    FILE *a = argc == 4 ? fopen(argv[2], "rb") : NULL;
-    FILE *b = argc == 4 ? fopen(argv[3], "rb") : NULL;
-    if (a && b && strcmp(argv[1], "lines") == 0)
+    FILE *a = argc >= 4 ? fopen(argv[2], "rb") : NULL;
+    FILE *b = argc >= 4 ? fopen(argv[3], "rb") : NULL;
+    FILE *in = argc == 5 ? fopen(argv[4], "rb") : NULL;
+    if (argc == 4 && a && b && strcmp(argv[1], "lines") == 0)
         return lines(a, b);
-    if (a && b && strcmp(argv[1], "cases") == 0)
+    if (argc == 4 && a && b && strcmp(argv[1], "cases") == 0)
         return cases(a, b);
-    fputs("usage: differ lines|cases PEER OTHER\n", stderr);
+    if (a && b && in && strcmp(argv[1], "starts") == 0)
+        return starts(a, b, in);
+    fputs("usage: differ lines|cases PEER OTHER\n"
+          "       differ starts PEER OTHER INPUT\n", stderr);
     return 2;
 }

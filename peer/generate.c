@@ -1,4 +1,4 @@
-/* Writes request streams and byte-entry cases to standard output. */
+/* Writes request streams, byte-entry cases and starts to standard output. */
 #include "generate.h"
 
 #include <stdio.h>
@@ -161,6 +161,11 @@ int main(int argc, char **argv)
 {
     if (argc == 2 && strcmp(argv[1], "first-run") == 0)
         return first_run();
+    if (argc == 2 && strcmp(argv[1], "fixed-starts") == 0)
+        return starts_fixed();
+    if (argc == 4 && strcmp(argv[1], "one-start") == 0)
+        return starts_one((uint32_t)strtoul(argv[2], NULL, 10),
+                          (uint32_t)strtoul(argv[3], NULL, 10));
     if (argc == 4 || argc == 5) {
         uint64_t seed = strtoull(argv[2], NULL, 10);
         unsigned long count = strtoul(argv[3], NULL, 10);
@@ -169,9 +174,14 @@ int main(int argc, char **argv)
             return requests(seed, count);
         if (strcmp(argv[1], "cases") == 0)
             return cases(seed, count);
+        if (strcmp(argv[1], "starts") == 0)
+            return starts_drawn(seed, count);
     }
     fputs("usage: generate requests SEED STEPS [INDEX]\n"
           "       generate cases SEED COUNT [INDEX]\n"
-          "       generate first-run\n", stderr);
+          "       generate starts SEED COUNT [INDEX]\n"
+          "       generate first-run\n"
+          "       generate fixed-starts\n"
+          "       generate one-start PRIORITY LENGTH\n", stderr);
     return 2;
 }

@@ -1,4 +1,4 @@
-/* Seeded requests and byte-entry cases. */
+/* Seeded requests, byte-entry cases and starts. */
 #ifndef PEER_GENERATE_H
 #define PEER_GENERATE_H
 
@@ -48,5 +48,10 @@ struct request world_live(struct world *w);    /* one that keeps it going */
 /* Images for cases: a good one made up whole, and one thing spoiled. */
 void image_invent(uint64_t *seed, uint8_t *image);
 void image_damage(uint64_t *seed, uint8_t *image);
+
+/* Records of starts, to standard output: any one, a fixed list, drawn ones. */
+int starts_one(uint32_t priority, uint32_t length);
+int starts_fixed(void);
+int starts_drawn(uint64_t seed, unsigned long count);
 
 #endif

@@ -389,6 +389,7 @@ uint32_t peer_start(uint32_t priority, uint8_t *image, uint64_t image_len)
     MARK_IF(image_len != IMAGE_BYTES, START_7);
     if (image_len != IMAGE_BYTES)
         return REFUSED_IMAGE;
+    MARK(START_OK);
     table_write(&k, image);
     return 0;
 }

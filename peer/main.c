@@ -1,5 +1,6 @@
-/* The two jobs: "run", the program of document 01's first run, and "cases",
-   which shows what the byte entry does with bytes of any kind. */
+/* The three jobs: "run", the program of document 01's first run; "cases",
+   which shows what the byte entry does with bytes of any kind; and "start",
+   which shows what a start does with images of any length. */
 #include "kernel.h"
 
 #include <inttypes.h>
@@ -11,7 +12,9 @@ enum {
     BLOCK_RECORDS = 2048,
     STREAM_BLOCK = 65536,
     CHUNK_MAX = 16384,
-    LENGTH_BYTES = 4
+    LENGTH_BYTES = 4,
+    START_BYTES = 8,
+    IMAGE_FILL = 0xA5 /* no byte of a fresh image, so what is written shows */
 };
 
 static int complain(const char *what)
@@ -83,7 +86,7 @@ struct test_case {
     struct chunk image, areas, record, answer;
 };
 
-static uint32_t length_read(const uint8_t *b)
+static uint32_t number_read(const uint8_t *b)
 {
     return (uint32_t)b[0] | (uint32_t)b[1] << 8 | (uint32_t)b[2] << 16
          | (uint32_t)b[3] << 24;
@@ -113,7 +116,7 @@ static const char *chunk_read(struct chunk *c, bool *at_end)
     *at_end = got == 0 && !ferror(stdin);
     if (got != sizeof length)
         return "the last case is cut short";
-    c->length = length_read(length);
+    c->length = number_read(length);
     if (c->length > CHUNK_MAX)
         return "a chunk is longer than 16384 bytes";
     if (fread(c->bytes, 1, c->length, stdin) != c->length)
@@ -133,6 +136,13 @@ static const char *case_read(struct test_case *c, bool *over)
     if (wrong == NULL)
         wrong = chunk_read(&c->answer, &at_end);
     return wrong;
+}
+
+/* What came before the bad record is still written; one complaint is enough. */
+static int stop(const char *wrong)
+{
+    fflush(stdout);
+    return complain(ferror(stdin) ? "cannot read the input" : wrong);
 }
 
 static int cases(void)
@@ -157,8 +167,43 @@ static int cases(void)
     if (over)
         return finish();
     MARK(strstr(wrong, "cut") != NULL ? CASE_CUT : CASE_LONG);
-    fflush(stdout); /* the cases before the bad one; one complaint is enough */
-    return complain(ferror(stdin) ? "cannot read the input" : wrong);
+    return stop(wrong);
+}
+
+/* As chunk_read, for the record of a start. */
+static const char *start_read(uint32_t *priority, uint32_t *length,
+                              bool *at_end)
+{
+    uint8_t record[START_BYTES];
+    size_t got = fread(record, 1, sizeof record, stdin);
+
+    *at_end = got == 0 && !ferror(stdin);
+    if (got != sizeof record)
+        return "the last start is cut short";
+    *priority = number_read(record);
+    *length = number_read(record + 4);
+    if (*length > CHUNK_MAX)
+        return "an image is longer than 16384 bytes";
+    return NULL;
+}
+
+static int start(void)
+{
+    uint8_t image[CHUNK_MAX];
+    uint32_t priority, length;
+    const char *wrong;
+    bool over;
+
+    setvbuf(stdin, NULL, _IOFBF, STREAM_BLOCK);
+    while ((wrong = start_read(&priority, &length, &over)) == NULL) {
+        memset(image, IMAGE_FILL, length);
+        number_print(peer_start(priority, image, length));
+        fwrite(image, 1, length, stdout);
+    }
+    if (over)
+        return finish();
+    MARK(strstr(wrong, "cut") != NULL ? START_CUT : START_LONG);
+    return stop(wrong);
 }
 
 int main(int argc, char **argv)
@@ -169,6 +214,8 @@ int main(int argc, char **argv)
         return run();
     if (argc == 2 && strcmp(argv[1], "cases") == 0)
         return cases();
-    fprintf(stderr, "usage: peer run|cases\n");
+    if (argc == 2 && strcmp(argv[1], "start") == 0)
+        return start();
+    fprintf(stderr, "usage: peer run|cases|start\n");
     return 2;
 }

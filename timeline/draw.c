@@ -1,210 +1,222 @@
-/* Draws a run as SVG. Each step is a line from top to bottom, and what stands to its right is so after it. A long run is cut into
- * bands, one below the other. */
-#include <stdarg.h>
+/* Draws a run: a row for each step, a column for each task. A row has room for all that its step says, in columns as wide as the
+ * longest text of the run, so that nothing need be left out. A long run is cut into blocks, one below the other, each with its heads. */
 #include <string.h>
 #include "timeline.h"
 
-enum { LEFT = 132, TOP = 76, LANE = 36, BAR = 18, PER_BAND = 50, NARROWEST = 900 };
+enum { MARGIN = 12, CHAR = 7, SIZE = 11, ROW = 20, BAR = 16, PER_BLOCK = 50, HEAD = 38, BETWEEN = 26, GUTTER = 28 };
 
-#define INK "#1a1a1a"
-#define RED "#c62828"
-#define GREEN "#00796b"
-#define IDLE "#f1ece6"
-#define DASHED " stroke-dasharray=\"3 2\""
+#define MIDDLE " text-anchor=\"middle\""
+#define END " text-anchor=\"end\""
 
-static const char *const kinds[] = {"?", "Create", "MyTid", "MyParentTid", "Yield", "Exit", "Send", "Receive", "Reply", "AwaitEvent", "Event",
+static const char *const kinds[] = {"kind", "Create", "MyTid", "MyParentTid", "Yield", "Exit", "Send", "Receive", "Reply", "AwaitEvent", "Event",
                                     "own write"};
-static const char *const colours[] = {"none", "#2e9e4f", "#bfe3a8", "#8fc4ea", "#f2b35c", "#c9a3e0", "#7fd0c8", "#d9d9d9"};
-static const char *const names[] = {"", "active", "ready", "waits in Receive", "waits in Send", "waits for a reply", "waits for an event", "exited"};
 
-static FILE *to;
-static int width; /* of a step */
-static int heads; /* the height of the steps' names */
-static int lanes; /* tasks that the run has */
-static int base, top; /* the step before the band, and where the band starts */
+/* Where the columns stand: the end of the numbers, the starts of the others, and where all of it ends. */
+static struct {
+    int number, caller, asked, next, told, lanes, end;
+} at;
+static int lane; /* the width of a task's column */
+static int base, top; /* the step before the block, and where the block starts */
 
-static void put(const char *format, ...)
+static const char *bytes(int count)
 {
-    va_list args;
-    va_start(args, format);
-    vfprintf(to, format, args);
-    va_end(args);
+    return count == 1 ? "byte" : "bytes";
 }
 
-static int x_of(int step)
+/* What a step asks: its kind with every number that the kind takes, and how it is refused. */
+static void say_asked(char *text, size_t room, const struct step *s)
 {
-    return LEFT + (step - base) * width;
-}
-
-static int y_of(int tid)
-{
-    return top + heads + (tid - 1) * LANE + LANE / 2;
-}
-
-static void arrow(int x, int from, int end, const char *colour, const char *more)
-{
-    int way = end > from ? 1 : -1;
-    put("<line x1=\"%d\" y1=\"%d\" x2=\"%d\" y2=\"%d\" stroke=\"%s\" stroke-width=\"1.6\"%s/>\n", x, from, x, end - 5 * way, colour, more);
-    put("<path d=\"M%d %d l-4 %d h8 z\" fill=\"%s\"/>\n", x, end, -7 * way, colour);
-}
-
-static void label(int x, int y, int size, const char *anchor, const char *more, const char *text)
-{
-    put("<text x=\"%d\" y=\"%d\" font-size=\"%d\" text-anchor=\"%s\"%s>%s</text>\n", x, y, size, anchor, more, text);
-}
-
-static void box(int x, int y, int w, int h, const char *colour)
-{
-    put("<rect x=\"%d\" y=\"%d\" width=\"%d\" height=\"%d\" fill=\"%s\"/>\n", x, y, w, h, colour);
-}
-
-static void mark(int x, int y, int32_t fault)
-{
-    put("<circle cx=\"%d\" cy=\"%d\" r=\"7.5\" fill=\"" RED "\"/>\n", x, y);
-    put("<text x=\"%d\" y=\"%d\" font-size=\"9\" font-weight=\"bold\" text-anchor=\"middle\" fill=\"#fff\">%ld</text>\n", x, y + 3, (long)fault);
-}
-
-static void dot(int x, int y)
-{
-    put("<circle cx=\"%d\" cy=\"%d\" r=\"2.5\" fill=\"" INK "\"/>\n", x, y);
-}
-
-static void legend(void)
-{
-    for (int s = ACTIVE; s <= EXITED; s++) {
-        int x = 12 + (s - 1) % 5 * 148, y = 30 + (s - 1) / 5 * 22;
-        box(x, y, 18, 12, colours[s]);
-        label(x + 24, y + 10, 12, "start", "", names[s]);
+    const int *w = s->words;
+    int known = w[0] >= CREATE && w[0] <= OWN_WRITE;
+    char more[128] = "", refused[24] = "";
+    switch (w[0]) {
+    case CREATE: snprintf(more, sizeof more, " priority %d", w[1]); break;
+    case SEND: snprintf(more, sizeof more, " to %d: %d %s at %d, room for %d at %d", w[1], w[3], bytes(w[3]), w[2], w[5], w[4]); break;
+    case RECEIVE: snprintf(more, sizeof more, ": room for %d at %d", w[2], w[1]); break;
+    case REPLY: snprintf(more, sizeof more, " to %d: %d %s at %d", w[1], w[3], bytes(w[3]), w[2]); break;
+    case AWAIT_EVENT: snprintf(more, sizeof more, " %d", w[1]); break;
+    case EVENT: snprintf(more, sizeof more, " %d: data %d", w[1], w[2]); break;
+    case OWN_WRITE: snprintf(more, sizeof more, ": %d at %d", w[2], w[1]); break;
+    default:
+        if (!known)
+            snprintf(more, sizeof more, " %d", w[0]);
     }
-    box(752, 30, 18, 12, IDLE);
-    label(776, 40, 12, "start", "", "nobody runs");
-    arrow(276, 51, 65, INK, "");
-    label(286, 62, 12, "start", "", "delivery, bytes copied");
-    mark(460, 58, -1);
-    label(474, 62, 12, "start", "", "told a fault");
-    arrow(577, 51, 65, GREEN, DASHED);
-    label(587, 62, 12, "start", "", "event");
-    dot(657, 58);
-    label(666, 62, 12, "start", "", "own write");
-    label(752, 62, 12, "start", " fill=\"" RED "\"", "R4");
-    label(776, 62, 12, "start", "", "refused");
-}
-
-/* What a step asks: its number, its kind, whom or which event it names, and how it is refused. */
-static void name_of(char *text, size_t room, int number, const struct step *s)
-{
-    int32_t k = s->words[0];
-    char more[32] = "", refused[16] = "";
-    if (k < CREATE || k > OWN_WRITE)
-        snprintf(more, sizeof more, " %ld", (long)k);
-    else if (k == SEND || k == REPLY || k == AWAIT_EVENT || k == EVENT)
-        snprintf(more, sizeof more, " %ld", (long)s->words[1]);
     if (s->verdict)
-        snprintf(refused, sizeof refused, " R%d", s->verdict);
-    snprintf(text, room, "%d %s%s%s", number, k < CREATE || k > OWN_WRITE ? kinds[0] : kinds[k], more, refused);
+        snprintf(refused, sizeof refused, ", refused R%d", s->verdict);
+    snprintf(text, room, "%s%s%s", kinds[known ? w[0] : 0], more, refused);
 }
 
-static void head(int number, const struct step *s)
+static void say_told(char *text, size_t room, const struct step *s)
 {
-    char text[80];
-    int x = x_of(number), y = top + heads;
-    name_of(text, sizeof text, number, s);
-    put("<text transform=\"translate(%d %d) rotate(-90)\" font-size=\"11\" fill=\"%s\">%s</text>\n", x + 4, y - 6, s->verdict ? RED : INK, text);
-    put("<line x1=\"%d\" y1=\"%d\" x2=\"%d\" y2=\"%d\" stroke=\"#e4e4e4\"/>\n", x, y, x, y + lanes * LANE);
-    if (s->next == 0)
-        box(x, y, width, lanes * LANE, IDLE);
+    if (s->told == 'v' && s->from)
+        snprintf(text, room, "v %d from %d", s->value, s->from);
+    else if (s->told == '-')
+        snprintf(text, room, "-");
+    else
+        snprintf(text, room, "%c %d", s->told, s->value);
 }
 
-/* The state of a task after a step; step 0 is the start. */
-static int state_after(const struct step *steps, int number, int tid)
+static void say_task(char *text, size_t room, int tid, const char *nobody)
 {
-    return number ? steps[number - 1].state[tid] : tid == 1 ? ACTIVE : UNUSED;
+    if (tid)
+        snprintf(text, room, "task %d", tid);
+    else
+        snprintf(text, room, "%s", nobody);
 }
 
-/* The colours of one task's lane, each run of a state as one bar. */
-static void lane(const struct step *steps, int last, int tid)
+static int x_of(int tid)
 {
-    char text[64];
-    snprintf(text, sizeof text, "task %d", tid);
-    label(LEFT - 64, y_of(tid) + 4, 13, "end", " font-weight=\"bold\"", text);
-    snprintf(text, sizeof text, "priority %d", priority_of(tid));
-    label(LEFT - 4, y_of(tid) + 4, 10, "end", " fill=\"#666\"", text);
-    for (int i = base, from = base; i <= last; i++) {
-        int state = state_after(steps, i, tid), thin = state == EXITED ? 6 : 0;
-        if (i < last && state_after(steps, i + 1, tid) == state)
+    return at.lanes + (tid - 1) * lane + lane / 2;
+}
+
+static int y_of(int step)
+{
+    return top + HEAD + (step - base - 1) * ROW;
+}
+
+/* The texts of a row. */
+static void row(int number, const struct step *s)
+{
+    char text[192];
+    int y = y_of(number) + ROW / 2 + 4;
+    const char *strong = s->verdict ? BOLD FILL(RED) : "";
+    put("<text x=\"%d\" y=\"%d\" text-anchor=\"end\">%d</text>\n", at.number, y, number);
+    say_task(text, sizeof text, s->caller, s->words[0] == EVENT ? "hardware" : "nobody");
+    label(at.caller, y, SIZE, "", text);
+    say_asked(text, sizeof text, s);
+    label(at.asked, y, SIZE, strong, text);
+    say_task(text, sizeof text, s->next, "nobody");
+    label(at.next, y, SIZE, "", text);
+    say_told(text, sizeof text, s);
+    label(at.told, y, SIZE, s->told == 'e' ? BOLD FILL(RED) : "", text);
+}
+
+/* The heads of a block, and a line under each row. */
+static void heads(const struct run *r, int last)
+{
+    const struct step *end = &r->steps[last];
+    char text[16];
+    int y = top + 14;
+    label(MARGIN, y, SIZE, BOLD, "step");
+    label(at.caller, y, SIZE, BOLD, "who asks");
+    label(at.asked, y, SIZE, BOLD, "for what");
+    label(at.next, y, SIZE, BOLD, "runs next");
+    label(at.told, y, SIZE, BOLD, "is told");
+    label(at.lanes, y, SIZE, BOLD END, "task");
+    label(at.lanes, y + 15, SIZE, FILL(GREY) END, "priority");
+    for (int t = 1; t <= end->used; t++) {
+        snprintf(text, sizeof text, "%d", t);
+        label(x_of(t), y, SIZE, BOLD MIDDLE, text);
+        snprintf(text, sizeof text, "%d", end->priority[t]);
+        label(x_of(t), y + 15, SIZE, FILL(GREY) MIDDLE, text);
+    }
+    put("<path stroke=\"#d8d8d8\" d=\"");
+    for (int i = base; i <= last; i++)
+        put("M%d %dH%d", MARGIN, y_of(i + 1), at.end);
+    put("\"/>\n");
+}
+
+/* The states of one task, each run of a state as one bar. */
+static void states(const struct run *r, int last, int tid)
+{
+    for (int i = base + 1, from = i; i <= last; i++) {
+        int state = r->steps[i].state[tid], wide = state == EXITED ? 4 : BAR;
+        if (i < last && r->steps[i + 1].state[tid] == state)
             continue;
         if (state != UNUSED)
-            box(x_of(from), y_of(tid) - BAR / 2 + thin, (i + 1 - from) * width - (i < last), BAR - 2 * thin, colours[state]);
+            bar(x_of(tid) - wide / 2, y_of(from) + 1, wide, (i + 1 - from) * ROW - 1, (enum state)state);
         from = i + 1;
     }
 }
 
-/* What a step did, over the lanes. */
+static int woken(const struct step *s, int tid)
+{
+    const struct step *before = s - 1;
+    return before->state[tid] >= SEND_BLOCKED && before->state[tid] <= EVENT_BLOCKED && (s->state[tid] == ACTIVE || s->state[tid] == READY);
+}
+
+/* What a step did, over the bars. */
 static void deed(int number, const struct step *s)
 {
-    int x = x_of(number);
-    char text[32];
-    if (s->sender) {
-        int from = y_of(s->sender), end = y_of(s->receiver), way = end > from ? 1 : -1;
-        arrow(x, from + way * BAR / 2, end - way * BAR / 2, INK, "");
-        snprintf(text, sizeof text, "%ld", (long)s->count);
-        label(x + 3, end - way * LANE / 2 + 3, 10, "start", " stroke=\"#fff\" stroke-width=\"2.5\" paint-order=\"stroke\"", text);
+    int y = y_of(number) + ROW / 2, left = at.lanes - GUTTER + 10, found = 0;
+    if (s->effect == 'c') {
+        int way = s->taker > s->giver ? 1 : -1;
+        delivery(x_of(s->giver) + way * BAR / 2, x_of(s->taker) - way * BAR / 2, y, s->count);
     }
-    if (s->words[0] == EVENT && !s->verdict)
-        arrow(x, top + heads - 2, s->woken ? y_of(s->woken) - BAR / 2 : top + heads + 8, GREEN, DASHED);
-    if (s->words[0] == OWN_WRITE && !s->verdict)
-        dot(x, y_of(s->caller));
+    if (s->effect == 'w')
+        dot(x_of(s->caller), y);
+    if (s->words[0] == EVENT && !s->verdict) {
+        for (int t = s->used; t >= 1; t--)
+            if (woken(s, t)) {
+                event(left, x_of(t) - BAR / 2, y);
+                found = 1;
+            }
+        if (!found)
+            lost(left, y);
+    }
     if (s->told == 'e')
-        mark(x + 10, y_of(s->next), s->value);
-    snprintf(text, sizeof text, "v %ld", (long)s->value);
-    if (s->told == 'v' && 6 * (int)strlen(text) < width)
-        label(x + 4, y_of(s->next) + 4, 10, "start", " fill=\"#fff\"", text);
+        mark(x_of(s->next), y, s->value);
 }
 
-/* One band: the steps from base + 1 to last. */
-static void band(const struct step *steps, int last)
+/* One block: the steps from base + 1 to last. */
+static void block(const struct run *r, int last)
 {
+    int lanes = r->steps[last].used;
     for (int i = base + 1; i <= last; i++)
-        head(i, &steps[i - 1]);
+        if (!r->steps[i].next)
+            box(at.lanes, y_of(i), lanes * lane, ROW, IDLE);
+    heads(r, last);
     for (int t = 1; t <= lanes; t++)
-        lane(steps, last, t);
+        states(r, last, t);
     for (int i = base + 1; i <= last; i++)
-        deed(i, &steps[i - 1]);
+        deed(i, &r->steps[i]);
+    put("<g" MONO " font-size=\"%d\">\n", SIZE);
+    for (int i = base + 1; i <= last; i++)
+        row(i, &r->steps[i]);
+    put("</g>\n");
 }
 
-/* Sets the measures that hold for the whole picture. */
-static void measure(const struct step *steps, int count)
+static int wider(int width, const char *text)
 {
-    size_t longest = 0;
-    for (int i = 1; i <= count; i++) {
-        char text[80];
-        name_of(text, sizeof text, i, &steps[i - 1]);
-        longest = strlen(text) > longest ? strlen(text) : longest;
-    }
-    heads = 16 + 7 * (int)longest;
-    width = count <= 14 ? 52 : count <= 30 ? 34 : 24;
-    for (lanes = TASKS; lanes > 1 && (!count || steps[count - 1].state[lanes] == UNUSED); lanes--)
-        ;
+    int needed = CHAR * (int)strlen(text);
+    return needed > width ? needed : width;
 }
 
-void draw(FILE *out, const struct step *steps, int count)
+/* Sets the columns, by what stands in them. */
+static void measure(const struct run *r)
 {
-    to = out;
-    measure(steps, count);
-    int bands = count ? (count - 1) / PER_BAND + 1 : 1, tall = heads + lanes * LANE + 24;
-    int wide = LEFT + ((count < PER_BAND ? count : PER_BAND) + 1) * width + 20, high = TOP + bands * tall;
-    wide = wide < NARROWEST ? NARROWEST : wide;
-    put("<svg xmlns=\"http://www.w3.org/2000/svg\" width=\"%d\" height=\"%d\" viewBox=\"0 0 %d %d\" font-family=\"sans-serif\" role=\"img\">\n", wide, high, wide,
-        high);
-    put("<title>A run of %d steps: the states of its tasks</title>\n", count);
-    box(0, 0, wide, high, "#fff");
-    label(12, 20, 14, "start", " font-weight=\"bold\"", "The tasks of a run, step by step");
-    label(290, 20, 12, "start", " fill=\"#666\"", "v 6 in a bar: as it becomes active, the task is told the value 6");
-    legend();
-    for (int b = 0; b < bands; b++) {
-        base = b * PER_BAND;
-        top = TOP + b * tall;
-        band(steps, base + PER_BAND < count ? base + PER_BAND : count);
+    int lanes = r->steps[r->count].used, asked = 100, told = 60;
+    char text[192];
+    for (int i = 1; i <= r->count; i++) {
+        say_asked(text, sizeof text, &r->steps[i]);
+        asked = wider(asked, text);
+        say_told(text, sizeof text, &r->steps[i]);
+        told = wider(told, text);
     }
+    lane = lanes <= 6 ? 64 : 44; /* between two bars a count of three digits fits beside the head of an arrow */
+    at.number = MARGIN + 4 * CHAR;
+    at.caller = at.number + 14;
+    at.asked = at.caller + 8 * CHAR + 12;
+    at.next = at.asked + asked + 16;
+    at.told = at.next + 8 * CHAR + 20;
+    at.lanes = at.told + told + GUTTER;
+    at.end = at.lanes + lanes * lane;
+}
+
+void draw(FILE *out, const struct run *r)
+{
+    measure(r);
+    int blocks = r->count ? (r->count - 1) / PER_BLOCK + 1 : 1;
+    int wide = at.end + MARGIN, high = KEY_HIGH + blocks * (HEAD + BETWEEN) + r->count * ROW;
+    begin(out, wide < KEY_WIDE ? KEY_WIDE : wide, high, r->count);
+    key();
+    top = KEY_HIGH;
+    for (base = 0; base < r->count || !base; base += PER_BLOCK) {
+        int last = base + PER_BLOCK < r->count ? base + PER_BLOCK : r->count;
+        block(r, last);
+        top = y_of(last + 1) + BETWEEN;
+    }
+    if (r->cut)
+        label(at.asked, top - BETWEEN + 16, SIZE, MONO BOLD FILL(RED), "end: an incomplete record, refused R5");
     put("</svg>\n");
 }

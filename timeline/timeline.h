@@ -1,36 +1,65 @@
-/* A picture of a run: what follow.c makes out of the requests, and draw.c draws. */
+/* A picture of a run: what read.c takes from the requests and the wide lines of kernel-run, and draw.c draws. */
 #ifndef TIMELINE_H
 #define TIMELINE_H
 
 #include <stdint.h>
 #include <stdio.h>
 
-enum { TASKS = 32, WORDS = 6, MOST = 1000 };
+enum { TASKS = 32, WORDS = 6, AREA = 256, MOST = 1000 };
 
 enum kind { CREATE = 1, MY_TID, MY_PARENT_TID, YIELD, EXIT, SEND, RECEIVE, REPLY, AWAIT_EVENT, EVENT, OWN_WRITE };
 
 /* By the paper's names: a send-blocked task waits in Receive, a receive-blocked one in Send. */
 enum state { UNUSED, ACTIVE, READY, SEND_BLOCKED, RECEIVE_BLOCKED, REPLY_BLOCKED, EVENT_BLOCKED, EXITED };
 
-/* One step: what it asked, what it showed, and what it did. Tids are 1 to 32; 0 is nobody. */
+/* One step: what it asked, and what its line shows. Tids are 1 to 32; 0 is nobody. */
 struct step {
-    int32_t words[WORDS];
-    int caller;
+    int words[WORDS]; /* signed, of 32 bits */
+    int caller; /* who was active before it; nobody asks for an event */
     int verdict, next;
     char told; /* '-', 'v' or 'e' */
-    int32_t value, from;
-    int sender, receiver;
-    int32_t count;
-    int woken;
-    unsigned char state[TASKS + 1];
+    int value, from;
+    char effect; /* '-', 'c' or 'w' */
+    int source, dest, count; /* a write has its place in dest */
+    int giver, taker; /* of a delivery */
+    int used;
+    unsigned char state[TASKS + 1], priority[TASKS + 1];
 };
 
-/* Fills in a step whose words are set, as the next one of the run. */
-void follow(struct step *s);
+struct run {
+    struct step steps[MOST + 1]; /* before the first stands how the run starts */
+    int count;
+    int cut; /* whether the last record is incomplete */
+};
 
-/* The priority of a task that has been made. */
-int priority_of(int tid);
+/* read.c: fills in a run; where the two files are not one, says so in a line on standard error and answers 0. */
+int read_run(struct run *r, FILE *requests, FILE *lines);
 
-void draw(FILE *out, const struct step *steps, int count);
+/* draw.c */
+void draw(FILE *out, const struct run *r);
+
+/* key.c: what the marks mean, from the top of the picture to KEY_HIGH; it takes KEY_WIDE at least. */
+enum { KEY_WIDE = 716, KEY_HIGH = 176 };
+void key(void);
+
+/* svg.c: the marks. */
+#define INK "#1a1a1a"
+#define GREY "#5a5a5a"
+#define RED "#b71c1c"
+#define IDLE "#efe9e1"
+#define MONO " font-family=\"monospace\""
+#define BOLD " font-weight=\"bold\""
+#define FILL(colour) " fill=\"" colour "\""
+
+void begin(FILE *out, int wide, int high, int steps);
+void put(const char *format, ...);
+void label(int x, int y, int size, const char *more, const char *text);
+void box(int x, int y, int w, int h, const char *colour);
+void bar(int x, int y, int w, int h, enum state state);
+void delivery(int from, int end, int y, int count);
+void event(int from, int end, int y);
+void lost(int from, int y);
+void mark(int x, int y, int fault);
+void dot(int x, int y);
 
 #endif

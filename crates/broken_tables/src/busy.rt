@@ -20,7 +20,7 @@ pub(crate) fn asked(table: Table, n: [u32; NUMBERS]) -> Table {
         arg3: n[4],
         arg4: n[5],
     };
-    let decision = step::proceed(table, request, &mut areas);
+    let decision = step::step(table, request, &mut areas);
     decision.table
 }
 

@@ -1,82 +1,72 @@
--- What a call comes to whose lengths are right: what is decided of the table that the image gives, if it gives a good one.
+-- What a call comes to whose lengths are right: the step of the table that the image is read as.
 use Prim.Native.Nat.{ℕ, _*_}
-use mathlib.Core.Path.{_≡_, refl, ap, subst, _∙_}
-use mathlib.Core.Bool.{true, false}
+use mathlib.Core.Path.{_≡_, subst}
+use mathlib.Core.Logic.{_≢_}
 use mathlib.Core.List.{List}
 use native.Mathlib.Omega.{arith}
-use lib.ListN.{length}
-use lib.Dec.{ltb, eqb}
-use borrow.Author.Tests.{eq-eqb, ltb-false}
+use lib.ListN.{length, length-replicate}
+use lib.Dec.{ltb}
+use borrow.Author.Tests.{eq-eqb, ltb-true, ltb-false}
 use Rattle.queue.proofs.Below.{by-test}
-use Rattle.tid.specs.Sizes.{priorities, areaBytes}
-use Rattle.task.proofs.Tests.{chosen, clash}
-use Rattle.kernel.specs.declared.table.Table.{Table}
-use Rattle.kernel.specs.declared.table.Answer.{Answer}
+use Rattle.tid.specs.Sizes.{areaBytes}
 use Rattle.kernel.specs.declared.table.Request.{Request}
-use Rattle.kernel.specs.declared.table.Effect.{Effect}
 use Rattle.kernel.specs.declared.table.Effect.the-variants.{Keep}
-use Rattle.kernel.specs.declared.table.Decision.{Decision}
-use Rattle.kernel.specs.Numbers.{ownWriteKind, accepted}
-use Rattle.kernel.specs.Table.{slots, activeSlot}
-use Rattle.kernel.specs.Moves.{firstReady, dispatched}
-use Rattle.kernel.specs.Turn.{settled}
-use Rattle.kernel.specs.Refusal.{refusalOf}
-use Rattle.kernel.specs.Decide.{ownWrite, decideAt, decide}
+use Rattle.kernel.specs.Numbers.{accepted}
+use Rattle.rules.specs.Fresh.{unusedTable}
+use Rattle.rules.proofs.Fresh.{unused-broken}
 use Rattle.step.specs.Step.{after}
+use Rattle.step.proofs.Steps.{refused-step, step-broken, step-decides}
 use Rattle.image.specs.Record.{recordLength}
-use Rattle.image.specs.Image.{imageOf, isImage}
-use Rattle.image.specs.Call.{requestLength, requestFrom, answerLength, answerBytes, answered}
+use Rattle.image.specs.Image.{tableOf, isImage, readImage}
+use Rattle.image.specs.Call.{requestLength, requestFrom, answerLength, answered}
+use Rattle.image.proofs.Laws.{write-back}
 use Rattle.inplace.specs.declared.Shown.{Shown}
-use Rattle.inplace.specs.Decided.{decidedIn, leftBy, Decided}
-use Rattle.entry.specs.Entry.{call, unfit, due, called}
-
--- only a refusal has a number above 0, and it does nothing to the areas
-abbrev Harmless : Decision → Type 0
-Harmless d = ltb accepted (d .answer .verdict) ≡ true → d .effect ≡ Keep
-
-dispatched-accepted : (e : Effect) (t : Table) → ltb accepted (dispatched e t .answer .verdict) ≡ false
-unfolding dispatched
-dispatched-accepted e t = by-test (ltb (firstReady t) priorities) (λ y. rw y) (λ y. rw y)
-
-refused-keeps : (t : Table) (r : Request) → Harmless (decide t r)
-unfolding decide decideAt settled ownWrite
-refused-keeps t r =
-    let v = refusalOf (slots t) (activeSlot t) r in
-    chosen Harmless (ltb accepted v) (λ _ _. refl)
-    (λ _. chosen Harmless (eqb (r .kind) ownWriteKind) (λ _ e. clash e refl) (λ _ e. clash e (dispatched-accepted _ _)))
+use Rattle.inplace.specs.Decided.{decidedIn, Decided}
+use Rattle.entry.specs.Entry.{call, due, called}
+use Rattle.entry.proofs.Calls.{due-step}
 
 module _ (n : ℕ) (image areas request answer : List ℕ) (room : length answer ≡ answerLength) (asked : length request ≡ requestLength)
     (sized : length image ≡ n * recordLength) (lent : length areas ≡ n * areaBytes) where
-  -- what is due is what is decided of the image
-  due-decided : due n image areas request ≡ decidedIn n image (requestFrom request)
-  unfolding due unfit decidedIn
-  due-decided =
-      rw (eq-eqb (length request) requestLength asked, eq-eqb (length image) (n * recordLength) sized, eq-eqb (length areas) (n * areaBytes) lent)
-      (by-test (isImage n image) (λ good. rw good) (λ bad. rw bad))
+  -- what is decided of the image is what is due; where it is none, of another table, which is not written
+  due-decided : {shown : Shown} {image′ : List ℕ} → Decided (decidedIn n image (requestFrom request)) image shown image′
+      → Decided (due n image areas request) image shown image′
+  unfolding decidedIn readImage
+  due-decided d =
+      let r = requestFrom request in
+      let step = due-step n image areas request asked sized in
+      let whole = eq-eqb (length image) (n * recordLength) sized in
+      by-test (isImage n image)
+      (λ good.
+      let table : readImage n image .table ≡ tableOf n image = rw (whole, good) in
+      rw (step, table, step-decides _ r (length areas) (write-back n good .0) lent) (rw (whole, good) at d))
+      (λ bad.
+      let table : readImage n image .table ≡ unusedTable n = rw (whole, bad) in
+      let slots : length areas ≡ length (unusedTable n .tasks) * areaBytes = rw length-replicate lent in
+      let was = rw (whole, bad) at d in
+      rw (step, table, step-broken _ r (length areas) slots (unused-broken n))
+      (record { shown = was .shown; effect = was .effect; image = was .image }))
 
-  decided-harmless : Harmless (decidedIn n image (requestFrom request))
-  unfolding decidedIn
-  decided-harmless =
-      rw (eq-eqb (length image) (n * recordLength) sized)
-      (by-test (isImage n image) (λ good. rw good (refused-keeps _ (requestFrom request))) (λ bad. rw bad (λ _. refl)))
+  -- a refusal does nothing to the areas
+  due-keeps : let d = due n image areas request in d .answer .verdict ≢ accepted → d .effect ≡ Keep
+  due-keeps = rw (due-step n image areas request asked sized) (λ other. refused-step _ _ _ other .effect)
 
-  fit-call : {image′ areas′ shown : List ℕ} → let d = decidedIn n image (requestFrom request) in
-      image′ ≡ leftBy d image → areas′ ≡ after (d .effect) areas → shown ≡ answered (d .answer) answer
-      → call (d .answer .verdict) image′ areas′ shown ≡ called n image areas request answer
+  -- what is due was carried out on the bytes that were lent
+  fit-call : {shown : Shown} {image′ areas′ answer′ : List ℕ} → Decided (due n image areas request) image shown image′
+      → areas′ ≡ after (shown .effect) areas → answer′ ≡ answered (shown .answer) answer
+      → call (shown .answer .verdict) image′ areas′ answer′ ≡ called n image areas request answer
   unfolding called
-  fit-call i a s =
-      let d = decidedIn n image (requestFrom request) in
-      by-test (ltb accepted (d .answer .verdict))
-      (λ some. rw (i, a, s, eq-eqb (length answer) answerLength room, due-decided, some, decided-harmless some))
+  fit-call d a s =
+      let v = due n image areas request .answer .verdict in
+      let whole = eq-eqb (length answer) answerLength room in
+      by-test (ltb accepted v)
+      (λ some. rw (a, s, d .image, d .shown, d .effect, whole, some, due-keeps (λ e. omega (arith, ltb-true accepted v some))))
       (λ none.
-      let zero : d .answer .verdict ≡ accepted = omega (arith, ltb-false accepted (d .answer .verdict) none) in
-      rw (i, a, s, eq-eqb (length answer) answerLength room, due-decided, none) (ap (λ (v : ℕ). call v (imageOf (d .table)) (after (d .effect) areas) (answerBytes (d .answer))) zero))
+      let zero : v ≡ accepted = omega (arith, ltb-false accepted v none) in
+      rw (a, s, d .image, d .shown, d .effect, whole, none, zero))
 
   -- what is shown is what was decided
-  pub fit-step : (q : Request) → q ≡ requestFrom request → (shown : Shown) {image′ areas′ answer′ : List ℕ}
+  pub fit-step : (q : Request) → q ≡ requestFrom request → {shown : Shown} {image′ areas′ answer′ : List ℕ}
       → Decided (decidedIn n image q) image shown image′ → areas′ ≡ after (shown .effect) areas → answer′ ≡ answered (shown .answer) answer
       → call (shown .answer .verdict) image′ areas′ answer′ ≡ called n image areas request answer
-  fit-step q e shown {image′} {areas′} {answer′} d a s =
-      let same : Decided (decidedIn n image (requestFrom request)) image shown image′ = subst (λ (x : Request). Decided (decidedIn n image x) image shown image′) e d in
-      ap (λ (x : Answer). call (x .verdict) image′ areas′ answer′) (same .shown)
-      ∙ fit-call (same .image) (a ∙ ap (λ (x : Effect). after x areas) (same .effect)) (s ∙ ap (λ (x : Answer). answered x answer) (same .shown))
+  fit-step q e {shown} {image′} d a s =
+      fit-call (due-decided (subst (λ (x : Request). Decided (decidedIn n image x) image shown image′) e d)) a s

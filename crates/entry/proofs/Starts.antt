@@ -2,33 +2,55 @@
 use Prim.Native.Nat.{ℕ, _*_, _≤_, _<_}
 use mathlib.Core.Path.{_≡_, refl, _∙_}
 use mathlib.Core.Logic.{_≢_}
+use mathlib.Core.Bool.{not}
 use mathlib.Core.List.{List}
 use native.Mathlib.Omega.{arith}
 use lib.ListN.{length, set, replicate}
-use borrow.Author.Tests.{eq-eqb, ne-eqb, lt-ltb, le-ltb}
+use lib.Dec.{ltb, eqb}
+use borrow.Author.Tests.{eq-eqb, ne-eqb, lt-ltb, le-ltb, ltb-true}
+use Rattle.queue.proofs.Below.{by-test}
 use Rattle.tid.specs.Sizes.{slotCount, priorities}
+use Rattle.task.proofs.Tests.{chosen}
 use Rattle.kernel.specs.Numbers.{accepted, badImage, badPriority}
-use Rattle.rules.specs.Fresh.{firstTask, fresh}
+use Rattle.rules.specs.Fresh.{firstTask, fresh, started}
 use Rattle.image.specs.Record.{recordLength, atState, atPriority, fields}
 use Rattle.image.specs.Image.{imageOf}
 use Rattle.records.specs.Records.{withRecord}
-use Rattle.records.proofs.Fresh.{unused-image, fresh-image}
-use Rattle.entry.specs.Entry.{startCall, startCalled}
+use Rattle.records.proofs.Fresh.{fresh-image}
+use Rattle.entry.specs.Entry.{StartCall, startCall, startCalled}
 
-pub start-wrong : (n priority : ℕ) (image : List ℕ) → length image ≢ n * recordLength → startCall badImage image ≡ startCalled n priority image
-unfolding startCalled
-start-wrong n priority image other = rw (ne-eqb (length image) (n * recordLength) other)
-
-module _ (n priority : ℕ) (image : List ℕ) (sized : length image ≡ n * recordLength) where
-  pub start-refused : priorities ≤ priority → {image′ : List ℕ} → image′ ≡ replicate (length image) 0
-      → startCall badPriority image′ ≡ startCalled n priority image
+module _ (n priority : ℕ) (image : List ℕ) where
+  pub start-refused : priorities ≤ priority → startCall badPriority image ≡ startCalled n priority image
   unfolding startCalled
-  start-refused none i = rw (i, eq-eqb (length image) (n * recordLength) sized, le-ltb priority priorities none, sized, unused-image n)
+  start-refused none = rw (le-ltb priority priorities none)
 
-  pub start-made : priority < priorities → {image′ : List ℕ} → image′ ≡ imageOf (fresh n priority)
-      → startCall accepted image′ ≡ startCalled n priority image
+  module _ (some : priority < priorities) where
+    pub start-wrong : length image ≢ n * recordLength → startCall badImage image ≡ startCalled n priority image
+    unfolding startCalled
+    start-wrong other = rw (lt-ltb priority priorities some, ne-eqb (length image) (n * recordLength) other)
+
+    pub start-made : length image ≡ n * recordLength → {image′ : List ℕ} → image′ ≡ imageOf (fresh n priority)
+        → startCall accepted image′ ≡ startCalled n priority image
+    unfolding startCalled
+    start-made sized i = rw (i, lt-ltb priority priorities some, eq-eqb (length image) (n * recordLength) sized)
+
+  -- an accepted start has a priority that there is, and leaves the image of a fresh table
+  pub start-fresh : let c = startCalled n priority image in
+      c .verdict ≡ accepted → (priority < priorities) × (c .image ≡ imageOf (fresh n priority))
   unfolding startCalled
-  start-made some i = rw (i, eq-eqb (length image) (n * recordLength) sized, lt-ltb priority priorities some)
+  start-fresh =
+      let P : StartCall → Type 0 = λ c. c .verdict ≡ accepted → (priority < priorities) × (c .image ≡ imageOf (fresh n priority)) in
+      by-test (ltb priority priorities)
+      (λ low. rw low
+      (chosen P (not (eqb (length image) (n * recordLength))) (λ _ e. absurd (omega arith)) (λ _ _. (ltb-true priority priorities low, refl))))
+      (λ high. rw high (λ e. absurd (omega arith)))
+
+  pub start-keeps : let c = startCalled n priority image in c .verdict ≢ accepted → c .image ≡ image
+  unfolding startCalled
+  start-keeps =
+      let P : StartCall → Type 0 = λ c. c .verdict ≢ accepted → c .image ≡ image in
+      chosen P (ltb accepted (started n priority .verdict)) (λ _ _. refl)
+      (λ _. chosen P (not (eqb (length image) (n * recordLength))) (λ _ _. refl) (λ _ no. absurd (no refl)))
 
 -- the first task's record differs from zeros in its state and its priority
 pub first-stored : (priority m : ℕ) → m ≡ slotCount * recordLength

@@ -81,18 +81,19 @@ fn clear(image: &mut [u8])
     }
 }
 
-// A fresh kernel's image, whose first task has the priority given.
+// A fresh kernel's image, whose first task has the priority given. The priority is asked before the length, and nothing is
+// written before both are right.
 #[no_mangle]
 pub extern "C" fn kernel_start(priority: u32, image: &mut [u8]) -> u32
     ensures { λ r. ⌜ startCall r (now (image .exit)) ≡ startCalled slotCount priority (now (image .entry)) ⌝ }
 {
+    if PRIORITIES <= priority as usize {
+        return BAD_PRIORITY as u32;
+    }
     if image.len() != IMAGE {
         return BAD_IMAGE as u32;
     }
     clear(&mut *image);
-    if PRIORITIES <= priority as usize {
-        return BAD_PRIORITY as u32;
-    }
     image[STATE] = ACTIVE;
     image[PRIORITY] = priority as u8;
     ACCEPTED as u32

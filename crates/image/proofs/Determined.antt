@@ -1,12 +1,10 @@
--- Each public function's own promise leaves no choice: see `Determines` in queue/specs/Determined.antt. The bytes that are lent
+-- Each public function's own promise leaves no choice: see `Determines` in tid/specs/Determined.antt. The bytes that are lent
 -- to be written are part of the result: of the parameters at exit, s .0, s .1 .0 and so on, the last.
 use mathlib.Core.Path.{refl, _∙⁻¹_}
 use denote.Ref.{now}
 use Rattle.tid.specs.Determined.{Determines, DeterminesResult}
-use Rattle.image.proofs.stored.judged.Reads as judged
 use Rattle.image.proofs.stored.read.Reads as read
 use Rattle.image.proofs.stored.write.Reads as write
-use Rattle.image.proofs.stored.store.Reads as store
 use Rattle.image.proofs.call.request_from.Reads as request-from
 use Rattle.image.proofs.call.put_answer.Reads as put-answer
 use Rattle.image.proofs.words.word.Reads as word
@@ -14,22 +12,16 @@ use Rattle.image.proofs.words.short.Reads as short
 use Rattle.image.proofs.fields.result_of.Reads as result-of
 use Rattle.image.proofs.fields.fields_of.Reads as fields-of
 
-judged-determined : (κs : _) (a : _) → DeterminesResult (judged.Post κs a)
-judged-determined κs a r r′ s s′ p p′ = (p ∙⁻¹ p′, refl)
-
 read-determined : (κs : _) (a : _) → DeterminesResult (read.Post κs a)
 read-determined κs a r r′ s s′ p p′ = (p ∙⁻¹ p′, refl)
 
 write-determined : (κs : _) (a : _) → Determines (write.Post κs a) (λ s. now (s .1 .0))
 write-determined κs a r r′ s s′ p p′ = (p .0 ∙⁻¹ p′ .0, p .1 ∙⁻¹ p′ .1)
 
--- what answers nothing is seen by its bytes alone
-store-determined : (κs : _) (a : _) → Determines (store.Post κs a) (λ s. now (s .1 .0))
-store-determined κs a r r′ s s′ p p′ = (refl, p ∙⁻¹ p′)
-
 request-from-determined : (κs : _) (a : _) → DeterminesResult (request-from.Post κs a)
 request-from-determined κs a r r′ s s′ p p′ = (p ∙⁻¹ p′, refl)
 
+-- what answers nothing is seen by its bytes alone
 put-answer-determined : (κs : _) (a : _) → Determines (put-answer.Post κs a) (λ s. now (s .1 .0))
 put-answer-determined κs a r r′ s s′ p p′ = (refl, p ∙⁻¹ p′)
 

@@ -1,4 +1,4 @@
--- The two records of a step: what is asked, and what is answered.
+-- The two records of a step: what is asked, and what is answered, as bytes and read from bytes.
 use Prim.Native.Nat.{ℕ}
 use mathlib.Core.List.{List, _++_}
 use lib.ListN.{length}
@@ -7,6 +7,7 @@ use Rattle.queue.specs.Choose.{choose}
 use Rattle.kernel.specs.declared.table.Request.{Request}
 use Rattle.kernel.specs.declared.table.Answer.{Answer}
 use Rattle.image.specs.Bytes.{bytesOf, numberIn}
+use Rattle.image.specs.Record.{resultOf}
 use Rattle.task.specs.Result.{resultKind, resultWord, resultFrom}
 
 abbrev pub requestLength : ℕ
@@ -62,3 +63,12 @@ answerBytes a =
 -- the bytes after an answer is put into them; nothing is where they are of another length
 abbrev pub answered : Answer → List ℕ → List ℕ
 answered a bytes = choose (eqb (length bytes) answerLength) (answerBytes a) bytes
+
+-- the answer that bytes tell: by the word at `atKind` the result is nothing, a value or a fault
+unfoldable pub answerFrom : List ℕ → Answer
+answerFrom bytes =
+    record {
+      verdict = numberIn bytes atVerdict 4;
+      next = numberIn bytes atNext 4;
+      result = resultOf (record { kind = numberIn bytes atKind 4; from = numberIn bytes atSender 4; word = numberIn bytes atValue 4 });
+    }

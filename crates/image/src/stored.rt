@@ -112,7 +112,7 @@ fn put_record(out: &mut [u8], at: usize, r: [u8; RECORD])
 }
 
 // The records of a table, good or not; where the bytes are of another length, nothing.
-pub fn store(table: Table, out: &mut [u8])
+fn store(table: Table, out: &mut [u8])
     ensures { λ r. ⌜ now (out .exit) ≡ stored table (now (out .entry)) ⌝ }
 {
     if out.len() != IMAGE {
@@ -185,7 +185,7 @@ fn check_placed(table: Table, bytes: &[u8]) -> Checked
 }
 
 // The table that the bytes give, with the verdict on them.
-pub fn judged(bytes: &[u8]) -> Reading
+fn judged(bytes: &[u8]) -> Reading
     ensures { λ r. ⌜ r ≡ judgedImage slotCount (now (bytes .entry)) ⌝ }
 {
     if bytes.len() != IMAGE {

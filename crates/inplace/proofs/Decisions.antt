@@ -6,10 +6,7 @@ use mathlib.Core.Bool.{true, false}
 use mathlib.Core.List.{List}
 use native.Mathlib.Omega.{arith}
 use lib.ListN.{length}
-use lib.Dec.{ltb}
 use borrow.Author.Tests.{eq-eqb, ne-eqb, eqb-true, lt-ltb, le-ltb}
-use Rattle.queue.proofs.Below.{by-test}
-use Rattle.tid.specs.Sizes.{priorities}
 use Rattle.tid.specs.Tid.{tidOf}
 use Rattle.task.specs.declared.task.Result.the-variants.{Nothing}
 use Rattle.kernel.specs.declared.table.Table.{Table}
@@ -19,11 +16,12 @@ use Rattle.kernel.specs.declared.table.Request.{Request}
 use Rattle.kernel.specs.declared.table.Turn as Kernel
 use Rattle.kernel.specs.Numbers.{ownWriteKind, accepted, badTable, badImage}
 use Rattle.kernel.specs.Table.{slots, usedSlots, activeSlot}
-use Rattle.kernel.specs.Moves.{firstReady, dispatched}
+use Rattle.kernel.specs.Moves.{dispatched}
 use Rattle.kernel.specs.Turn.{settled}
 use Rattle.kernel.specs.Kinds.{placeIn}
 use Rattle.kernel.specs.Refusal.{refusalOf}
 use Rattle.kernel.specs.Decide.{shownTid, refused, turnOf, ownWrite, decideAt, decide}
+use Rattle.kernel.proofs.Refusals.{dispatched-accepted}
 use Rattle.rules.specs.Facts.{Good}
 use Rattle.rules.proofs.Good.{first-active}
 use Rattle.image.specs.Record.{recordLength, recordOf}
@@ -55,11 +53,6 @@ module _ (t : Table) (r : Request) (n a v : ℕ) (size : slots t ≡ n) (act : a
   decide-enters : v ≤ accepted → r .kind ≢ ownWriteKind → decide t r ≡ settled a (turnOf t a r)
   unfolding decide decideAt
   decide-enters none other = rw (size, ← act, ← is, le-ltb accepted v none, ne-eqb (r .kind) ownWriteKind other)
-
--- a dispatch is no refusal
-dispatched-accepted : (e : Effect) (t : Table) → ltb accepted (dispatched e t .answer .verdict) ≡ false
-unfolding dispatched
-dispatched-accepted e t = by-test (ltb (firstReady t) priorities) (λ y. rw y) (λ y. rw y)
 
 -- an answer that tells nothing
 abbrev pub shownBy : ℕ → ℕ → Effect → Shown

@@ -1,17 +1,20 @@
-// Reads request records from standard input, steps them from a fresh kernel, and writes a line for each.
+// Reads request records from standard input, steps them from a fresh kernel, and writes a line for each: a wide one where the
+// program is called with any word.
 ghost use mathlib.Core.Path.{_≡_};
 ghost use mathlib.Core.Bool.{true};
-ghost use Prim.Native.Nat.{_≤_};
+ghost use mathlib.Core.List.{List};
+ghost use Prim.Native.Nat.{ℕ, _≤_};
 ghost use lib.ListN.{length, take};
-ghost use Rattle.rules.specs.Good.{goodTable};
 ghost use Rattle.lines.specs.Block.{showed, roomFor};
+ghost use Rattle.lines.specs.Printed.{Reached};
+ghost use Rattle.kernel_run.specs.Stands.{Stands, Leads, Onward};
 use image::call::REQUEST;
 use kernel::table::Table;
 use libc::STDERR_FILENO;
 use libc::STDIN_FILENO;
 use libc::STDOUT_FILENO;
 use lines::Block;
-use lines::LONGEST;
+use lines::LONGEST_WIDE;
 use lines::fresh_block;
 use lines::show_block;
 use tid::sizes::AREA;
@@ -21,7 +24,7 @@ use tid::sizes::SLOTS;
 const FIRST: u32 = 16;
 
 // As many records as are read at a time.
-const RECORDS: usize = 1000;
+const RECORDS: usize = 100;
 
 // Where a run stands after a block, and whether there may be another.
 struct Next {
@@ -55,32 +58,44 @@ fn fill(records: &mut [u8]) -> usize
     n
 }
 
-// The lines of a block, all of them: there is room.
-fn shown(first: Block, records: &[u8], areas: &mut [u8], out: &mut [u8]) -> Block
-    requires { ⌜ (goodTable (first .table) ≡ true) × (first .end ≡ 0) × (roomFor (length (now records)) ≤ length (now out)) ⌝ }
-    ensures good { λ r. ⌜ goodTable (r .table) ≡ true ⌝ }
-    ensures whole { λ r. ⌜ (take (r .end) (now (out .exit)) ≡ showed first (now (areas .entry)) (now (records .entry)) .text) × (r .end ≤ length (now (out .exit))) ⌝ }
-{
-    show_block(first, records, &mut *areas, &mut *out)
+// Whether the lines were written; where not, it says so.
+fn written(lines: &[u8]) -> bool {
+    let is_written = io::write_all(STDOUT_FILENO, lines);
+    if !is_written {
+        io::write_all(
+            STDERR_FILENO,
+            b"kernel-run: standard output cannot be written\n",
+        );
+    }
+    is_written
 }
 
-// One block: read, stepped and written.
-fn turn(table: Table, step: u64, areas: &mut [u8]) -> Next
-    requires { ⌜ goodTable table ≡ true ⌝ }
-    ensures { λ r. ⌜ goodTable (r .table) ≡ true ⌝ }
+// The lines of a block, all of them: there is room. They go on where the lines of what was read before end.
+fn shown(first: Block, records: &[u8], areas: &mut [u8], out: &mut [u8], wide: bool) -> Block
+    requires { ⌜ (first .end ≡ 0) × (roomFor wide (length (now records)) ≤ length (now out)) ⌝ }
+    ensures whole { λ r. ⌜ (take (r .end) (now (out .exit)) ≡ showed wide first (now (areas .entry)) (now (records .entry)) .text) × (r .end ≤ length (now (out .exit))) ⌝ }
+    ensures onward { λ r. ⌜ ((input : List ℕ) → Reached input (first .table) (first .step) (now (areas .entry)) → Onward wide input (now (records .entry)) (take (r .end) (now (out .exit))) (r .table) (r .step) (now (areas .exit))) ⌝ }
+{
+    show_block(first, records, &mut *areas, &mut *out, wide)
+}
+
+// One block: read, stepped and written. Where there may be another, the run of all that was read stands in what is left.
+fn turn(table: Table, step: u64, areas: &mut [u8], wide: bool) -> Next
+    requires { ⌜ Stands table step (now areas) ⌝ }
+    ensures { λ r. ⌜ (r .more ≡ true → Leads table step (now (areas .entry)) (r .table) (r .step) (now (areas .exit))) ⌝ }
 {
     let mut records = [0u8; REQUEST * RECORDS];
-    let mut out = [0u8; LONGEST * (RECORDS + 1)];
+    let mut out = [0u8; LONGEST_WIDE * (RECORDS + 1)];
     let n = fill(&mut records);
     let first = Block {
         table,
         step,
         end: 0,
     };
-    let block = shown(first, &records[..n], &mut *areas, &mut out);
+    let block = shown(first, &records[..n], &mut *areas, &mut out, wide);
     let next = block.table;
     let end = block.end;
-    let is_written = io::write_all(STDOUT_FILENO, &out[..end]);
+    let is_written = written(&out[..end]);
     Next {
         table: next,
         step: block.step,
@@ -90,14 +105,14 @@ fn turn(table: Table, step: u64, areas: &mut [u8]) -> Next
 
 // A proved loop has to end, and nothing says that the input does. So the loop counts its turns down, from a number that no
 // run uses up.
-fn run(first: Block, areas: &mut [u8])
-    requires { ⌜ goodTable (first .table) ≡ true ⌝ }
+fn run(first: Block, areas: &mut [u8], wide: bool)
+    requires { ⌜ Stands (first .table) (first .step) (now areas) ⌝ }
 {
     let mut table = first.table;
     let mut step = first.step;
     let mut turns = u64::MAX;
     while 0 < turns {
-        let next = turn(table, step, &mut *areas);
+        let next = turn(table, step, &mut *areas, wide);
         if !next.more {
             break;
         }
@@ -109,5 +124,6 @@ fn run(first: Block, areas: &mut [u8])
 
 fn main() {
     let mut areas = [0u8; SLOTS * AREA];
-    run(fresh_block(FIRST), &mut areas);
+    let wide = 1 < os::arg_count();
+    run(fresh_block(FIRST), &mut areas, wide);
 }

@@ -6,10 +6,11 @@ use native.Mathlib.Omega.{arith}
 use native.Mathlib.Nat.{add-zero}
 use native.Mathlib.Decide.{decLt}
 use lib.ListN.{length, set, length-append}
-use lib.Seq.{sets, length-sets, set-out}
+use lib.Seq.{sets, length-sets}
 use lib.Dec.{ltb}
 use borrow.Author.Tests.{lt-ltb, le-ltb}
 use Rattle.queue.specs.Choose.{choose}
+use Rattle.step.proofs.Copies.{sets-out}
 use Rattle.lines.specs.Text.{Appended, digit, digits, decimal}
 
 -- a run of stores in two parts
@@ -18,11 +19,6 @@ sets-append [] ys l i = rw add-zero
 sets-append (x ∷ xs) ys l i =
     let next : i + suc (length xs) ≡ suc i + length xs = omega arith in
     rw next (sets-append xs ys (set l i x) (suc i))
-
--- past the end nothing is stored
-sets-out : (vs l : List ℕ) (i : ℕ) → length l ≤ i → sets l i vs ≡ l
-sets-out [] l i h = refl
-sets-out (a ∷ vs) l i h = rw (set-out l i a h) (sets-out vs l (suc i) (omega arith))
 
 -- no text
 pub nothing : {before : List ℕ} {at : ℕ} → Appended before at [] before at

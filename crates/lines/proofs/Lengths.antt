@@ -1,22 +1,30 @@
 -- How long a line can be, and that a text which fits is there whole.
-use Prim.Native.Nat.{ℕ, zero, suc, _+_, _-_, _/_, _%_, _^_, _≤_, _<_}
+use Prim.Native.Nat.{ℕ, zero, suc, _+_, _-_, _*_, _/_, _%_, _^_, _≤_, _<_}
 use mathlib.Core.Path.{_≡_, sym}
+use mathlib.Core.Bool.{Bool, true, false}
 use mathlib.Core.List.{List, _++_}
 use native.Mathlib.Omega.{arith, pow-step}
+use native.Mathlib.Numerals.{add-one}
 use native.Mathlib.Decide.{decLt}
 use lib.ListN.{length, take, drop, length-append}
 use lib.Seq.{sets-eq, take-at, length-take-le}
 use lib.Dec.{eqb}
 use borrow.Author.Tests.{lt-ltb, le-ltb, eq-eqb, ne-eqb}
+use Rattle.queue.specs.Choose.{choose}
 use Rattle.task.specs.declared.task.Result.the-variants.{Value, Fault}
-use Rattle.task.specs.Task.{firstNegative}
+use Rattle.task.specs.declared.task.Task.{Task}
+use Rattle.task.specs.Task.{firstNegative, stateCode}
 use Rattle.task.specs.Result.{negated}
 use Rattle.kernel.specs.declared.table.Answer.{Answer}
+use Rattle.kernel.specs.declared.table.Table.{Table}
+use Rattle.kernel.specs.Table.{taskAt}
+use Rattle.kernel.specs.declared.table.Effect.the-variants.{Copy, Put}
 use Rattle.lines.specs.Text.{Appended, digits, decimal, signed}
 use Rattle.task.proofs.Tests.{chosen}
 use Rattle.image.specs.Call.{requestLength}
-use Rattle.lines.specs.Line.{verdictText, resultText, answerText, lineOf, longest, endLine}
-use Rattle.lines.specs.Block.{endOf}
+use Rattle.lines.specs.Line.{verdictText, resultText, answerText, stepText, longest, endLine}
+use Rattle.lines.specs.State.{effectText, taskText, tasksText, longestWide}
+use Rattle.lines.specs.Block.{endOf, roomFor}
 
 digits-size : (k m n : ℕ) → n < 10 ^ suc m → length (digits k n) ≤ suc m
 unfolding digits
@@ -61,14 +69,41 @@ unfolding answerText
 answer-size a h l g =
     simp length-append (omega (arith, verdict-size (a .verdict) h, decimal-size 2 (a .next) (omega arith)))
 
-pub line-size : (step kind : ℕ) (a : Answer) → step < 2 ^ 64 → kind < 2 ^ 32 → length (answerText a) ≤ 26 → length (lineOf step kind a) ≤ longest
-unfolding lineOf
-line-size step kind a h l g =
+pub step-size : (step kind : ℕ) (a : Answer) → step < 2 ^ 64 → kind < 2 ^ 32 → length (answerText a) ≤ 26 → length (stepText step kind a) < longest
+unfolding stepText
+step-size step kind a h l g =
     simp length-append (omega (arith, decimal-size 19 step (omega arith), signed-size kind l))
 
-pub end-size : (count : ℕ) → length (endOf count) ≤ longest
+pub copy-size : (source dest n : ℕ) → source < 2 ^ 64 → dest < 2 ^ 64 → n < 2 ^ 64 → length (effectText (Copy source dest n)) ≤ 64
+unfolding effectText
+copy-size source dest n h l g =
+    let of : (k : ℕ) → k < 2 ^ 64 → length (decimal k) ≤ 20 = λ k less. decimal-size 19 k (omega arith) in
+    simp length-append (omega (arith, of source h, of dest l, of n g))
+
+pub write-size : (at byte : ℕ) → at < 2 ^ 64 → length (effectText (Put at byte)) ≤ 64
+unfolding effectText
+write-size at byte h = omega (arith, decimal-size 19 at (omega arith))
+
+pub task-size : (x : Task) → stateCode (x .state) < 256 → x .priority < 256 → length (taskText x) ≤ 8
+task-size x h l =
+    simp length-append (omega (arith, decimal-size 2 (stateCode (x .state)) (omega arith), decimal-size 2 (x .priority) (omega arith)))
+
+-- one task more
+pub tasks-more : (t : Table) (k : ℕ) → length (tasksText t k) ≤ 8 * k → length (taskText (taskAt t k)) ≤ 8 → length (tasksText t (k + 1)) ≤ 8 * (k + 1)
+unfolding tasksText
+tasks-more t k h l =
+    rw (add-one, length-append (tasksText t k) (taskText (taskAt t k))) (omega arith)
+
+pub end-size : (wide : Bool) (count : ℕ) → length (endOf count) ≤ choose wide longestWide longest
 unfolding endOf endLine verdictText digits
-end-size count = chosen (λ (x : List ℕ). length x ≤ longest) (eqb (count % requestLength) 0) (λ e. omega arith) (λ e. omega arith)
+end-size wide count =
+    let most : longest ≤ choose wide longestWide longest = chosen (λ (m : ℕ). longest ≤ m) wide (λ e. omega arith) (λ e. omega arith) in
+    chosen (λ (x : List ℕ). length x ≤ choose wide longestWide longest) (eqb (count % requestLength) 0) (λ e. omega arith) (λ e. omega arith)
+
+-- room for wide lines is room for lines
+pub wide-room : (wide : Bool) (count : ℕ) → roomFor wide count ≤ longestWide * (count / requestLength + 1)
+wide-room true count = omega arith
+wide-room false count = omega arith
 
 behind : {before after text : List ℕ} {at end : ℕ} → Appended before at text after end → at + length text ≤ length before
     → take end after ≡ take at before ++ text

@@ -1,4 +1,5 @@
 mod Joined
 mod Onward
 pub mod Lengths
+pub mod Printed
 mod Determined

@@ -1,63 +1,86 @@
--- One step more of a run.
-use Prim.Native.Nat.{ℕ, _+_, _-_, _≤_, _<_}
-use mathlib.Core.Path.{_≡_, refl, ap, ap₂, _∙_}
-use mathlib.Core.List.{List, [], _∷_, _++_}
+-- A run that goes on from where another ends, and its lines.
+use Prim.Native.Nat.{ℕ, _+_, _-_, _*_, _≤_, _<_}
+use mathlib.Core.Path.{_≡_, refl, ap, _∙_}
+use mathlib.Core.Bool.{Bool}
+use mathlib.Core.List.{List, [], _∷_, _++_, append-assoc}
 use native.Mathlib.Omega.{arith}
 use native.Mathlib.Numerals.{add-one}
+use native.Mathlib.Nat.{mul-add}
 use lib.ListN.{length, length-append}
-use Rattle.kernel.specs.declared.table.Table.{Table}
 use Rattle.kernel.specs.declared.table.Request.{Request}
-use Rattle.kernel.specs.Decide.{decide}
-use Rattle.step.specs.Step.{after}
+use Rattle.step.specs.Run.{Done, run, lastOf}
+use Rattle.step.proofs.Runs.{run-append, last-append}
 use Rattle.lines.specs.declared.block.Block.{Block}
 use Rattle.image.specs.Bytes.{recordAt}
 use Rattle.image.specs.Call.{requestLength, requestFrom}
-use Rattle.lines.specs.Line.{lineOf, longest}
-use Rattle.lines.specs.Block.{Standing, Ran, following, begun, stepped, ran, requestsIn}
+use Rattle.lines.specs.Block.{Standing, Ran, following, linesFrom, numberAfter, requestsIn, ran}
 use Rattle.lines.proofs.Joined.{nothing, then, known-as}
 
 -- one turn less is left
 pub fewer : (i n : ℕ) → i < n → n - (i + 1) < n - i
 fewer i n h = omega arith
 
-ran-more : (rs : List Request) (s : Standing) (r : Request) → ran s (rs ++ (r ∷ [])) ≡ stepped (ran s rs) r
-unfolding ran
-ran-more [] s r = refl
-ran-more (x ∷ rs) s r = ran-more rs (stepped s x) r
+number-append : (k : ℕ) (u w : List Done) → numberAfter k (u ++ w) ≡ numberAfter (numberAfter k u) w
+unfolding numberAfter
+number-append k [] w = refl
+number-append k (s ∷ u) w = number-append (following k) u w
 
--- a step behind what a block has done
-onward : {due : Standing} {first b b′ : Block} {before out out′ areas areas′ : List ℕ} (r : Request) → Ran due first before b areas out
-    → Ran (stepped (begun b areas) r) b out b′ areas′ out′ → Ran (stepped due r) first before b′ areas′ out′
-onward r p q =
-    record {
-      reached = q .reached ∙ ap (λ (t : Table). decide t r .table) (p .reached);
-      counted = q .counted ∙ ap following (p .counted);
-      changed = q .changed ∙ ap₂ (λ (t : Table) (xs : List ℕ). after (decide t r .effect) xs) (p .reached) (p .changed);
-      shown = then (p .shown) (known-as (ap₂ (λ (n : ℕ) (t : Table). lineOf n (r .kind) (decide t r .answer)) (p .counted) (p .reached)) (q .shown));
-    }
+lines-append : (wide : Bool) (k : ℕ) (u w : List Done) → linesFrom wide k (u ++ w) ≡ linesFrom wide k u ++ linesFrom wide (numberAfter k u) w
+unfolding linesFrom numberAfter
+lines-append wide k [] w = refl
+lines-append wide k (s ∷ u) w = rw (lines-append wide (following k) u w, append-assoc)
+
+-- a block that starts where a run stands
+abbrev pub from : Standing → Block
+from s = record { table = s .table; step = s .step; end = 0 }
+
+-- where a run stands that led to s first, and from there to w
+abbrev pub joined : Standing → Standing → Standing
+joined s w = record { table = w .table; areas = w .areas; step = w .step; text = s .text ++ w .text }
+
+-- where requests more lead
+abbrev pub onward : Bool → Standing → List Request → Standing
+onward wide s rs = joined s (ran wide (from s) (s .areas) rs)
+
+pub ran-append : (wide : Bool) (b : Block) (xs : List ℕ) (rs qs : List Request) → ran wide b xs (rs ++ qs) ≡ onward wide (ran wide b xs rs) qs
+ran-append wide b xs rs qs = simp (run-append, last-append, number-append, lines-append)
+
+module _ {due : Standing} {first b : Block} {before out areas : List ℕ} (p : Ran due first before b areas out) (wide : Bool) (rs : List Request) where
+  -- a block goes on from where its run stands
+  same-ran : ran wide b areas rs ≡ ran wide (from due) (due .areas) rs
+  same-ran = λ i. ran wide (record { table = p .reached i; step = p .counted i; end = 0 }) (p .changed i) rs
+
+  -- requests more, behind what a block has done
+  goes-on : {b′ : Block} {out′ areas′ : List ℕ} → Ran (ran wide b areas rs) b out b′ areas′ out′ → Ran (onward wide due rs) first before b′ areas′ out′
+  goes-on q =
+      record {
+        reached = q .reached ∙ ap (λ (s : Standing). s .table) same-ran;
+        counted = q .counted ∙ ap (λ (s : Standing). s .step) same-ran;
+        changed = q .changed ∙ ap (λ (s : Standing). s .areas) same-ran;
+        shown = then (p .shown) (known-as (ap (λ (s : Standing). s .text) same-ran) (q .shown));
+      }
 
 -- one record more of a row
-pub run-more : (s : Standing) {first b b′ : Block} {before out out′ areas areas′ r : List ℕ} (bytes : List ℕ) (i : ℕ)
-    → r ≡ recordAt requestLength bytes i → Ran (ran s (requestsIn bytes i)) first before b areas out
-    → Ran (stepped (begun b areas) (requestFrom r)) b out b′ areas′ out′ → Ran (ran s (requestsIn bytes (i + 1))) first before b′ areas′ out′
-unfolding requestsIn
-run-more s {r} bytes i e p q =
-    rw (add-one, ran-more (requestsIn bytes i) s (requestFrom (recordAt requestLength bytes i)), ← e) (onward (requestFrom r) p q)
+module _ (wide : Bool) (first : Block) (xs bytes : List ℕ) (i : ℕ) {b : Block} {before out areas r : List ℕ} (e : r ≡ recordAt requestLength bytes i)
+    (p : Ran (ran wide first xs (requestsIn bytes i)) first before b areas out) where
+  more : ran wide first xs (requestsIn bytes (i + 1)) ≡ onward wide (ran wide first xs (requestsIn bytes i)) (requestFrom r ∷ [])
+  unfolding requestsIn
+  more = rw (add-one, e) (ran-append wide first xs (requestsIn bytes i) (requestFrom (recordAt requestLength bytes i) ∷ []))
 
--- how long the lines of one record more can be
-pub size-more : (s : Standing) {first b : Block} {before out areas r : List ℕ} (bytes : List ℕ) (i : ℕ)
-    → r ≡ recordAt requestLength bytes i → Ran (ran s (requestsIn bytes i)) first before b areas out
-    → length (stepped (begun b areas) (requestFrom r) .text) ≤ longest
-    → length (ran s (requestsIn bytes (i + 1)) .text) ≤ length (ran s (requestsIn bytes i) .text) + longest
-unfolding requestsIn
-size-more s {r} bytes i e p h =
-    let due = ran s (requestsIn bytes i) in
-    let asked = requestFrom r in
-    let line = ap₂ (λ (n : ℕ) (t : Table). lineOf n (asked .kind) (decide t asked .answer)) (p .counted) (p .reached) in
-    rw (add-one, ran-more (requestsIn bytes i) s (requestFrom (recordAt requestLength bytes i)), ← e, length-append) (omega (arith, rw line at h))
+  pub run-more : {b′ : Block} {out′ areas′ : List ℕ} → Ran (ran wide b areas (requestFrom r ∷ [])) b out b′ areas′ out′
+      → Ran (ran wide first xs (requestsIn bytes (i + 1))) first before b′ areas′ out′
+  run-more q = rw more (goes-on p wide (requestFrom r ∷ []) q)
+
+  -- how long the lines can be, where none is longer than `most`
+  pub size-more : (most : ℕ) → length (ran wide first xs (requestsIn bytes i) .text) ≤ most * i
+      → length (ran wide b areas (requestFrom r ∷ []) .text) ≤ most
+      → length (ran wide first xs (requestsIn bytes (i + 1)) .text) ≤ most * (i + 1)
+  size-more most h l =
+      let size : Standing → ℕ = λ s. length (s .text) in
+      omega (arith, mul-add most i 1, simp length-append at (ap size more), ap size (same-ran p wide (requestFrom r ∷ [])))
 
 -- no record yet
-pub run-none : (first : Block) (bytes areas out : List ℕ) → Ran (ran (begun first areas) (requestsIn bytes 0)) first out first areas out
-unfolding requestsIn ran
-run-none first bytes areas out =
+pub run-none : (wide : Bool) (first : Block) (bytes areas out : List ℕ) → Ran (ran wide first areas (requestsIn bytes 0)) first out first areas out
+unfolding requestsIn run lastOf linesFrom numberAfter
+run-none wide first bytes areas out =
     record { reached = refl; counted = refl; changed = refl; shown = nothing }

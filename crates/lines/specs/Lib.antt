@@ -1,3 +1,5 @@
 pub mod Text
 pub mod Line
+pub mod State
 pub mod Block
+pub mod Printed

@@ -51,17 +51,20 @@ answerText a =
     ++ space ∷ decimal (a .next)
     ++ space ∷ resultText (a .result)
 
+-- the step's number, its kind, and what it answered
+unfoldable pub stepText : ℕ → ℕ → Answer → List ℕ
+stepText step kind a =
+    decimal step
+    ++ space ∷ signed kind
+    ++ space ∷ answerText a
+
 -- no line is longer than this
 abbrev pub longest : ℕ
 longest = 60
 
--- the step's number, its kind, and what it answered
+-- the line of a step
 unfoldable pub lineOf : ℕ → ℕ → Answer → List ℕ
-lineOf step kind a =
-    decimal step
-    ++ space ∷ signed kind
-    ++ space ∷ answerText a
-    ++ newline ∷ []
+lineOf step kind a = stepText step kind a ++ newline ∷ []
 
 -- "end" and refusal 5: the last record is incomplete
 unfoldable pub endLine : List ℕ

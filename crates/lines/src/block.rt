@@ -1,20 +1,23 @@
 // Request records stepped in blocks.
 ghost use mathlib.Core.Path.{_≡_};
-ghost use mathlib.Core.Bool.{true};
 ghost use Prim.Native.Nat.{_*_, _/_, _≤_};
+ghost use mathlib.Core.List.{[], _∷_};
 ghost use lib.ListN.{length, take};
-ghost use Rattle.rules.specs.Good.{goodTable};
 ghost use Rattle.image.specs.Call.{requestLength, requestFrom};
-ghost use Rattle.lines.specs.Line.{longest};
+ghost use Rattle.queue.specs.Choose.{choose};
+ghost use Rattle.lines.specs.Line.{lineOf, longest};
+ghost use Rattle.lines.specs.State.{wideLineOf, longestWide};
 ghost use Rattle.lines.specs.Text.{Appended};
-ghost use Rattle.lines.specs.Block.{Ran, freshBlock, begun, stepped, ran, requests, endOf, showed, roomFor};
+ghost use Rattle.lines.specs.Block.{Ran, freshBlock, ran, requests, endOf, showed, roomFor};
 use crate::shown::line;
 use crate::shown::put_end;
+use crate::state::wide_line;
 use image::call::REQUEST;
 use image::call::request_from;
+use kernel::table::Decision;
 use kernel::table::Table;
 use rules::start;
-use step::proceed;
+use step::step;
 
 // Where a run stands between two blocks: the table, the number of the next step, and where its line goes in the buffer.
 pub struct Block {
@@ -36,18 +39,35 @@ pub fn fresh_block(priority: u32) -> Block
     }
 }
 
+// The line of a step, wide or not.
+fn put_line(
+    out: &mut [u8],
+    at: usize,
+    step: u64,
+    kind: u32,
+    decision: Decision,
+    wide: bool,
+) -> usize
+    ensures { λ r. ⌜ Appended (now (out .entry)) at (choose wide (wideLineOf step kind decision) (lineOf step kind (decision .answer))) (now (out .exit)) r ⌝ }
+    ensures short { λ r. ⌜ length (choose wide (wideLineOf step kind decision) (lineOf step kind (decision .answer))) ≤ choose wide longestWide longest ⌝ }
+{
+    if wide {
+        return wide_line(&mut *out, at, step, kind, decision);
+    }
+    let answer = decision.answer;
+    line(&mut *out, at, step, kind, answer)
+}
+
 // One record stepped, and its line.
-fn step_one(b: Block, bytes: &[u8], areas: &mut [u8], out: &mut [u8]) -> Block
-    ensures { λ r. ⌜ Ran (stepped (begun b (now (areas .entry))) (requestFrom (now (bytes .entry)))) b (now (out .entry)) r (now (areas .exit)) (now (out .exit)) ⌝ }
-    ensures good { λ r. ⌜ (goodTable (b .table) ≡ true → goodTable (r .table) ≡ true) ⌝ }
-    ensures short { λ r. ⌜ length (stepped (begun b (now (areas .entry))) (requestFrom (now (bytes .entry))) .text) ≤ longest ⌝ }
+fn step_one(b: Block, bytes: &[u8], areas: &mut [u8], out: &mut [u8], wide: bool) -> Block
+    ensures { λ r. ⌜ Ran (ran wide b (now (areas .entry)) (requestFrom (now (bytes .entry)) ∷ [])) b (now (out .entry)) r (now (areas .exit)) (now (out .exit)) ⌝ }
+    ensures short { λ r. ⌜ length (ran wide b (now (areas .entry)) (requestFrom (now (bytes .entry)) ∷ []) .text) ≤ choose wide longestWide longest ⌝ }
 {
     let table = b.table;
     let r = request_from(bytes);
-    let decision = proceed(table, r, &mut *areas);
-    let answer = decision.answer;
+    let decision = step(table, r, &mut *areas);
     let next = decision.table;
-    let end = line(&mut *out, b.end, b.step, r.kind, answer);
+    let end = put_line(&mut *out, b.end, b.step, r.kind, decision, wide);
     Block {
         table: next,
         step: std::num::wrapping_add_u64(b.step, 1),
@@ -55,11 +75,10 @@ fn step_one(b: Block, bytes: &[u8], areas: &mut [u8], out: &mut [u8]) -> Block
     }
 }
 
-// Every whole record stepped, and their lines put behind what the buffer holds. The table is not checked: a good one stays good.
-fn run_block(first: Block, records: &[u8], areas: &mut [u8], out: &mut [u8]) -> Block
-    ensures { λ r. ⌜ Ran (ran (begun first (now (areas .entry))) (requests (now (records .entry)))) first (now (out .entry)) r (now (areas .exit)) (now (out .exit)) ⌝ }
-    ensures good { λ r. ⌜ (goodTable (first .table) ≡ true → goodTable (r .table) ≡ true) ⌝ }
-    ensures short { λ r. ⌜ length (ran (begun first (now (areas .entry))) (requests (now (records .entry))) .text) ≤ longest * (length (now (records .entry)) / requestLength) ⌝ }
+// Every whole record stepped, and their lines put behind what the buffer holds.
+fn run_block(first: Block, records: &[u8], areas: &mut [u8], out: &mut [u8], wide: bool) -> Block
+    ensures { λ r. ⌜ Ran (ran wide first (now (areas .entry)) (requests (now (records .entry)))) first (now (out .entry)) r (now (areas .exit)) (now (out .exit)) ⌝ }
+    ensures short { λ r. ⌜ length (ran wide first (now (areas .entry)) (requests (now (records .entry))) .text) ≤ choose wide longestWide longest * (length (now (records .entry)) / requestLength) ⌝ }
 {
     let count = records.len() / REQUEST;
     let mut b = first;
@@ -67,7 +86,7 @@ fn run_block(first: Block, records: &[u8], areas: &mut [u8], out: &mut [u8]) -> 
     while i < count {
         let at = i * REQUEST;
         let next = at + REQUEST;
-        b = step_one(b, &records[at..next], &mut *areas, &mut *out);
+        b = step_one(b, &records[at..next], &mut *areas, &mut *out, wide);
         i += 1;
     }
     b
@@ -85,12 +104,17 @@ fn end_block(count: usize, out: &mut [u8], at: usize) -> usize
 
 // A block: its lines put behind what the buffer holds, with the line for an incomplete record. Where the buffer has room for
 // them, and holds nothing yet, they are what it holds up to the answer's end.
-pub fn show_block(first: Block, records: &[u8], areas: &mut [u8], out: &mut [u8]) -> Block
-    ensures { λ r. ⌜ Ran (showed first (now (areas .entry)) (now (records .entry))) first (now (out .entry)) r (now (areas .exit)) (now (out .exit)) ⌝ }
-    ensures good { λ r. ⌜ (goodTable (first .table) ≡ true → goodTable (r .table) ≡ true) ⌝ }
-    ensures whole { λ r. ⌜ (first .end ≡ 0 → roomFor (length (now (records .entry))) ≤ length (now (out .entry)) → take (r .end) (now (out .exit)) ≡ showed first (now (areas .entry)) (now (records .entry)) .text) ⌝ }
+pub fn show_block(
+    first: Block,
+    records: &[u8],
+    areas: &mut [u8],
+    out: &mut [u8],
+    wide: bool,
+) -> Block
+    ensures { λ r. ⌜ Ran (showed wide first (now (areas .entry)) (now (records .entry))) first (now (out .entry)) r (now (areas .exit)) (now (out .exit)) ⌝ }
+    ensures whole { λ r. ⌜ (first .end ≡ 0 → roomFor wide (length (now (records .entry))) ≤ length (now (out .entry)) → take (r .end) (now (out .exit)) ≡ showed wide first (now (areas .entry)) (now (records .entry)) .text) ⌝ }
 {
-    let done = run_block(first, records, &mut *areas, &mut *out);
+    let done = run_block(first, records, &mut *areas, &mut *out, wide);
     let table = done.table;
     let end = end_block(records.len(), &mut *out, done.end);
     Block {

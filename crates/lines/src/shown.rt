@@ -1,8 +1,8 @@
 // The line that a step shows as.
-ghost use Prim.Native.Nat.{_≤_};
+ghost use Prim.Native.Nat.{_<_, _≤_};
 ghost use lib.ListN.{length};
 ghost use Rattle.lines.specs.Text.{Appended};
-ghost use Rattle.lines.specs.Line.{verdictText, resultText, answerText, lineOf, longest, endLine};
+ghost use Rattle.lines.specs.Line.{verdictText, resultText, answerText, stepText, lineOf, longest, endLine};
 use crate::text::put;
 use crate::text::put_decimal;
 use crate::text::put_signed;
@@ -12,7 +12,7 @@ use kernel::table::Answer;
 use task::task::Result;
 
 // No line is longer than this.
-pub const LONGEST: usize = 60;
+pub(crate) const LONGEST: usize = 60;
 
 fn put_verdict(out: &mut [u8], at: usize, verdict: u8) -> usize
     ensures { λ r. ⌜ Appended (now (out .entry)) at (verdictText verdict) (now (out .exit)) r ⌝ }
@@ -67,16 +67,24 @@ fn put_answer(out: &mut [u8], at: usize, answer: Answer) -> usize
     put_result(&mut *out, d, result)
 }
 
-// The line of a step, which the caller has counted.
-pub fn line(out: &mut [u8], at: usize, step: u64, kind: u32, answer: Answer) -> usize
-    ensures { λ r. ⌜ Appended (now (out .entry)) at (lineOf step kind answer) (now (out .exit)) r ⌝ }
-    ensures short { λ r. ⌜ length (lineOf step kind answer) ≤ longest ⌝ }
+// The number of a step, which the caller has counted, its kind, and what it answered.
+pub(crate) fn put_step(out: &mut [u8], at: usize, step: u64, kind: u32, answer: Answer) -> usize
+    ensures { λ r. ⌜ Appended (now (out .entry)) at (stepText step kind answer) (now (out .exit)) r ⌝ }
+    ensures short { λ r. ⌜ length (stepText step kind answer) < longest ⌝ }
 {
     let a = put_decimal(&mut *out, at, step);
     let b = put(&mut *out, a, b' ');
     let c = put_signed(&mut *out, b, kind);
     let d = put(&mut *out, c, b' ');
-    let end = put_answer(&mut *out, d, answer);
+    put_answer(&mut *out, d, answer)
+}
+
+// The line of a step.
+pub fn line(out: &mut [u8], at: usize, step: u64, kind: u32, answer: Answer) -> usize
+    ensures { λ r. ⌜ Appended (now (out .entry)) at (lineOf step kind answer) (now (out .exit)) r ⌝ }
+    ensures short { λ r. ⌜ length (lineOf step kind answer) ≤ longest ⌝ }
+{
+    let end = put_step(&mut *out, at, step, kind, answer);
     put(&mut *out, end, b'\n')
 }
 

@@ -1,7 +1,7 @@
 // Text put into a lent buffer from a place on. Each function answers the place behind what it put there; what does not fit
 // is cut at the buffer's end.
 ghost use mathlib.Core.Path.{_≡_};
-ghost use mathlib.Core.List.{List, [], _∷_};
+ghost use mathlib.Core.List.{[], _∷_};
 ghost use Rattle.lines.specs.Text.{Appended, digit, decimal, signed};
 use task::task::FIRST_NEGATIVE;
 

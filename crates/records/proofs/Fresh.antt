@@ -1,4 +1,4 @@
--- The images that a kernel starts from.
+-- The image that a kernel starts from.
 use Prim.Native.Nat.{ℕ, _+_, _*_, _≤_, _<_}
 use mathlib.Core.Path.{_≡_, refl, sym, _∙_}
 use native.Mathlib.Omega.{arith}
@@ -35,9 +35,6 @@ unused-records n =
       size = length-replicate (n * recordLength) 0;
       each = λ s h. blank-record n s h ∙ rw (all-same n s noTask);
     }
-
-pub unused-image : (n : ℕ) → replicate (n * recordLength) 0 ≡ imageOf (unusedTable n)
-unused-image n = records-image n (unusedTable n) _ (length-replicate n noTask) (unused-records n)
 
 pub fresh-image : (n p : ℕ) → 1 ≤ n → withRecord (replicate (n * recordLength) 0) 0 (fields (firstTask p) 0) ≡ imageOf (fresh n p)
 unfolding queueOf

@@ -5,13 +5,13 @@ use image::call::REQUEST;
 use image::call::put_answer;
 use image::call::request_from;
 use image::stored::IMAGE;
-use image::stored::store;
+use image::stored::write;
 use kernel::numbers::ACCEPTED;
 use kernel::table::Table;
 use libc::STDIN_FILENO;
 use libc::STDOUT_FILENO;
 use rules::start;
-use step::proceed;
+use step::step;
 use tid::sizes::AREA;
 use tid::sizes::SLOTS;
 
@@ -33,7 +33,7 @@ fn stepped(first: Table, records: &[u8], areas: &mut [u8], answers: &mut [u8]) -
         let next = at + REQUEST;
         let end = to + ANSWER;
         let table = decision.table;
-        decision = proceed(table, request_from(&records[at..next]), &mut *areas);
+        decision = step(table, request_from(&records[at..next]), &mut *areas);
         let answer = decision.answer;
         put_answer(answer, &mut answers[to..end]);
         at = next;
@@ -45,7 +45,7 @@ fn stepped(first: Table, records: &[u8], areas: &mut [u8], answers: &mut [u8]) -
 // Steps all records and writes what came of them.
 fn shown(first: Table, records: &[u8], areas: &mut [u8], answers: &mut [u8], image: &mut [u8]) {
     let last = stepped(first, records, &mut *areas, &mut *answers);
-    store(last, &mut *image);
+    write(last, &mut *image);
     let count = records.len() / REQUEST;
     if count <= answers.len() / ANSWER {
         let end = count * ANSWER;

@@ -9,7 +9,7 @@ use Rattle.tid.specs.Sizes.{slotCount, areaBytes}
 use Rattle.kernel.specs.Numbers.{badAreas, badRecord, badImage}
 use Rattle.image.specs.Record.{recordLength}
 use Rattle.image.specs.Call.{requestLength, answerLength}
-use Rattle.entry.proofs.Calls.{wrong-answer, unfit-record, unfit-image, unfit-areas, unfit-call}
+use Rattle.entry.proofs.Calls.{due-record, due-image, due-areas, wrong-answer, refused-call}
 use Rattle.entry.proofs.Fits.{fit-step}
 use Rattle.entry.proofs.kernel_step.Statement.{statement}
 use Rattle.entry.proofs.kernel_step.Tie as tie
@@ -56,8 +56,8 @@ returns-2 c =
     let here = told .before .before in
     let passed = here .before in
     let start = opened (passed .before) in
-    unfit-call slotCount (image start) (areas start) (request start) (answer start) (room passed) badRecord (omega arith)
-    (unfit-record slotCount (image start) (areas start) (request start) (answer start) (λ e. omega arith))
+    refused-call slotCount (image start) (areas start) (request start) (answer start) (room passed) badRecord (omega arith)
+    (due-record slotCount (image start) (areas start) (request start) (λ e. omega arith))
     (told .refuse .ensures)
 
 returns-3 : tie.Need-returns-3
@@ -66,8 +66,8 @@ returns-3 c =
     let here = told .before .before in
     let passed = here .before in
     let start = opened (passed .before .before) in
-    unfit-call slotCount (image start) (areas start) (request start) (answer start) (room (passed .before)) badImage (omega arith)
-    (unfit-image slotCount (image start) (areas start) (request start) (answer start) (asked passed) (λ e. omega arith))
+    refused-call slotCount (image start) (areas start) (request start) (answer start) (room (passed .before)) badImage (omega arith)
+    (due-image slotCount (image start) (areas start) (request start) (asked passed) (λ e. omega arith))
     (told .refuse2 .ensures)
 
 returns-4 : tie.Need-returns-4
@@ -76,8 +76,8 @@ returns-4 c =
     let here = told .before .before in
     let passed = here .before in
     let start = opened (passed .before .before .before) in
-    unfit-call slotCount (image start) (areas start) (request start) (answer start) (room (passed .before .before)) badAreas (omega arith)
-    (unfit-areas slotCount (image start) (areas start) (request start) (answer start) (asked (passed .before)) (sized passed) (λ e. omega arith))
+    refused-call slotCount (image start) (areas start) (request start) (answer start) (room (passed .before .before)) badAreas (omega arith)
+    (due-areas slotCount (image start) (areas start) (request start) (asked (passed .before)) (sized passed) (λ e. omega arith))
     (told .refuse3 .ensures)
 
 returns-5 : tie.Need-returns-5
@@ -89,7 +89,7 @@ returns-5 c =
     let passed = asked-of .before .before in
     let start = opened (passed .before .before .before .before) in
     fit-step slotCount (image start) (areas start) (request start) (answer start) (room (passed .before .before .before)) (asked (passed .before .before))
-    (sized (passed .before)) (lent passed) (asked-of .request-from .result) (asked-of .request-from .ensures) (decided .decide .result)
+    (sized (passed .before)) (lent passed) (asked-of .request-from .result) (asked-of .request-from .ensures)
     (decided .decide .ensures) (applied .apply .ensures) (put .put-answer .ensures)
 
 pub kernel-step-spec : {M : Type 1} → statement M

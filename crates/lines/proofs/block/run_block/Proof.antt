@@ -1,33 +1,34 @@
 -- `block::run_block`. The loop's invariant: the first i records have been stepped, and their lines are short.
 use Prim.Native.Nat.{ℕ, _+_, _-_, _*_, _/_, _≤_}
 use mathlib.Core.Path.{_≡_, refl, ap}
+use mathlib.Core.Bool.{Bool}
 use mathlib.Core.List.{List}
-use mathlib.Core.Bool.{true}
 use native.Mathlib.Omega.{arith}
 use lib.ListN.{length, take, drop}
 use borrow.Author.Needs.{needs}
-use Rattle.rules.specs.Good.{goodTable}
+use Rattle.queue.specs.Choose.{choose}
+use Rattle.step.specs.Run.{run}
 use Rattle.image.specs.Call.{requestLength}
 use Rattle.lines.specs.Line.{longest}
-use Rattle.lines.specs.Block.{Ran, begun, ran, requestsIn}
+use Rattle.lines.specs.State.{longestWide}
+use Rattle.lines.specs.Block.{Ran, linesFrom, ran, requestsIn}
 use Rattle.lines.proofs.Onward.{fewer, run-more, size-more, run-none}
 use Rattle.lines.proofs.block.run_block.Statement.{statement}
 use Rattle.lines.proofs.block.run_block.Tie as tie
 
 abbrev Inv-loop : tie.InvT-loop
-Inv-loop records areas₀ out₀ count b₀ i₀ areas out b i =
+Inv-loop records areas₀ out₀ wide count b₀ i₀ areas out b i =
     (i ≤ count) × (count ≡ length records / requestLength) × (length areas ≡ length areas₀) × (length out ≡ length out₀)
-    × Ran (ran (begun b₀ areas₀) (requestsIn records i)) b₀ out₀ b areas out × (goodTable (b₀ .table) ≡ true → goodTable (b .table) ≡ true)
-    × (length (ran (begun b₀ areas₀) (requestsIn records i) .text) ≤ longest * i)
+    × Ran (ran wide b₀ areas₀ (requestsIn records i)) b₀ out₀ b areas out × (length (ran wide b₀ areas₀ (requestsIn records i) .text) ≤ choose wide longestWide longest * i)
 
 abbrev μ-loop : tie.MeasureT-loop
-μ-loop records areas₀ out₀ count b₀ i₀ areas out b i = count - i
+μ-loop records areas₀ out₀ wide count b₀ i₀ areas out b i = count - i
 
 loop-holds : tie.Need-loop-holds Inv-loop μ-loop
-unfolding requestsIn ran
+unfolding requestsIn run linesFrom
 loop-holds c =
     let asked = c .before .before .before .args in
-    (omega arith, refl, refl, refl, run-none (asked .first) (asked .records .now) (asked .areas .now) (asked .out .now), λ good. good, omega arith)
+    (omega arith, refl, refl, refl, run-none (asked .wide) (asked .first) (asked .records .now) (asked .areas .now) (asked .out .now), omega arith)
 
 loop-less : tie.Need-loop-less Inv-loop μ-loop
 loop-less c =
@@ -39,6 +40,7 @@ loop-again c =
     let called = c .before .before .before .before in
     let loop = called .before .before .before .before .before in
     let start = loop .before .before .before .before in
+    let wide : Bool = start .args .wide in
     let areas : List ℕ = start .args .areas .now in
     let records : List ℕ = start .args .records .now in
     let inv = loop .loop .inv in
@@ -50,9 +52,8 @@ loop-again c =
       inv .1,
       search needs,
       search needs,
-      run-more (begun (start .args .first) areas) records i same (inv .4) (made .0),
-      λ good. made .1 .0 (inv .5 good),
-      omega (arith, inv .6, size-more (begun (start .args .first) areas) records i same (inv .4) (made .1 .1)),
+      run-more wide (start .args .first) areas records i same (inv .4) (made .0),
+      size-more wide (start .args .first) areas records i same (inv .4) (choose wide longestWide longest) (inv .5) (made .1),
     )
 
 returns : tie.Need-returns Inv-loop μ-loop
@@ -61,7 +62,7 @@ returns c =
     let start = c .before .before .before .before .before in
     let records : List ℕ = start .args .records .now in
     let end : c .before .loop .i ≡ length records / requestLength = omega arith in
-    (rw end at (inv .4), (inv .5, rw end at (inv .6)))
+    (rw end at (inv .4), rw end at (inv .5))
 
 pub run-block-spec : {M : Type 1} → statement M
 run-block-spec =

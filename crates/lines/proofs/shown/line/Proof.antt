@@ -1,38 +1,18 @@
--- `shown::line`: six texts, one behind the other.
+-- `shown::line`: the step's text, and the end of the line.
 use native.Mathlib.Omega.{arith}
+use lib.ListN.{length-append}
 use borrow.Author.Needs.{needs}
 use Rattle.lines.proofs.Joined.{then}
 use Rattle.lines.specs.Line.{lineOf}
-use Rattle.lines.proofs.Lengths.{line-size}
 use Rattle.lines.proofs.shown.line.Statement.{statement}
 use Rattle.lines.proofs.shown.line.Tie as tie
 
 returns : tie.Need-returns
 unfolding lineOf
 returns c =
-    let g = c .before .before in
-    let f = g .before .before .before .before in
-    let e = f .before .before .before .before in
-    let d = e .before .before .before .before in
-    let b = d .before .before .before .before in
-    let a = b .before .before .before .before in
-    let kind = then (a .put-decimal .ensures) (then (b .put .ensures) (d .put-signed .ensures)) in
-    let answer = then (e .put2 .ensures) (f .put-answer .ensures .0) in
-    let start = a .before .before .before in
-    let asked = start .args in (
-      then (then kind answer) (g .put3 .ensures),
-      line-size (asked .step) (asked .kind) (asked .answer) (omega (arith, start .fits .step)) (omega (arith, start .fits .kind)) (f .put-answer .ensures .1),
-    )
+    let b = c .before .before in
+    let (made, short) = b .before .before .before .before .put-step .ensures in
+    (then made (b .put .ensures), simp length-append (omega arith))
 
 pub line-spec : {M : Type 1} → statement M
-line-spec =
-    tie.close
-    (tie.spec
-    (λ c κs. search needs)
-    (λ c κs. search needs)
-    (λ c κs. search needs)
-    (λ c κs. search needs)
-    (λ c κs. search needs)
-    (λ c κs. search needs)
-    (λ c. search needs)
-    returns)
+line-spec = tie.close (tie.spec (λ c κs. search needs) (λ c κs. search needs) (λ c. search needs) returns)

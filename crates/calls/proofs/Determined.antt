@@ -1,0 +1,9 @@
+-- What a host calls leaves no choice: entry's own theorems.
+use Rattle.entry.proofs.Determined.{kernel-step-determined, kernel-start-determined}
+use Rattle.calls.specs.Determined.{KernelStepDetermined, KernelStartDetermined}
+
+pub kernelStepDetermined : KernelStepDetermined
+kernelStepDetermined = kernel-step-determined
+
+pub kernelStartDetermined : KernelStartDetermined
+kernelStartDetermined = kernel-start-determined

@@ -1,0 +1,4 @@
+mod Calls
+mod Alike
+pub mod Laws
+pub mod Determined

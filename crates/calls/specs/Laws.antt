@@ -1,0 +1,89 @@
+-- The laws for a host: any list of calls of `kernel_step` on an image that `kernel_start` wrote. Each is a statement; proofs/Laws.antt
+-- proves it under the same name in small letters. `kernel_step` and `kernel_start` promise `called` and `startCalled` of 32 slots.
+use Prim.Native.Nat.{ℕ}
+use mathlib.Core.Path.{_≡_}
+use mathlib.Core.Bool.{Bool, false}
+use mathlib.Core.List.{List, map, Forall₂}
+use lib.ListN.{length}
+use Rattle.tid.specs.Sizes.{slotCount}
+use Rattle.kernel.specs.declared.table.Table.{Table}
+use Rattle.kernel.specs.Numbers.{accepted}
+use Rattle.rules.specs.Fresh.{fresh}
+use Rattle.step.specs.Run.{Done, run, lastOf}
+use Rattle.image.specs.Call.{requestFrom, answerLength}
+use Rattle.lines.specs.Block.{requests, linesFrom}
+use Rattle.laws.specs.Same.{SameButWrite, SameButWrites}
+use Rattle.laws.specs.Movement.{movements}
+use Rattle.laws.specs.Origin.{origins, valueOf}
+use Rattle.entry.specs.Entry.{Call, called, startCalled}
+use Rattle.entry.specs.Laws.{Tells}
+use Rattle.calls.specs.Calls.{Lent, calls, isTaken, ofTaken, requestsOf, asCall}
+
+-- a kernel started with a priority into bytes of any kind, and what came of the calls after it
+abbrev pub Started : ℕ → List ℕ → Type 0
+Started priority bytes = startCalled slotCount priority bytes .verdict ≡ accepted
+
+abbrev pub callsFrom : ℕ → List ℕ → List ℕ → List Lent → List Call
+callsFrom priority bytes areas ls = calls slotCount (startCalled slotCount priority bytes .image) areas ls
+
+-- the run of the requests that were taken
+abbrev pub runFrom : ℕ → List ℕ → List Lent → List Done
+runFrom priority areas ls = run (fresh slotCount priority) areas (requestsOf ls)
+
+-- A list of calls is a run: the calls that are taken return and leave, one after another, the verdict, the image, the areas and the answer of
+-- the steps of the run.
+-- Ruled out: an entry that keeps something between two calls beside the bytes that the host keeps.
+abbrev pub CallsAreRun : Type 0
+CallsAreRun =
+    (priority : ℕ) (bytes areas : List ℕ) (ls : List Lent) → Started priority bytes
+    → ofTaken ls (callsFrom priority bytes areas ls) ≡ map asCall (runFrom priority areas ls)
+
+-- A call that is not taken changes nothing, whatever image and areas it is lent.
+-- Ruled out: a call refused for a length that leaves another image, so that the next one is not the next step.
+abbrev pub OthersChangeNothing : Type 0
+OthersChangeNothing =
+    (image areas : List ℕ) (l : Lent) → isTaken l ≡ false → let c = called slotCount image areas (l .request) (l .answer) in
+    (c .image ≡ image) × (c .areas ≡ areas)
+
+-- Each answer, by its bytes, is a reading, a refusal or nothing (`Tells`), where the host lent room for it.
+abbrev pub EachAnswerTells : Type 0
+EachAnswerTells =
+    (priority : ℕ) (bytes areas : List ℕ) (ls : List Lent)
+    → Forall₂ (λ l c. length (l .answer) ≡ answerLength → Tells c) ls (callsFrom priority bytes areas ls)
+
+-- two calls that differ only in a byte to be written: requests of one length that ask the same, or two own writes of bytes at one offset;
+-- and the same room for the answer
+pub record SameButByte (l l′ : Lent) : Type 0 where
+  pub sized : length (l .request) ≡ length (l′ .request)
+  pub asked : SameButWrite (requestFrom (l .request)) (requestFrom (l′ .request))
+  pub room : l .answer ≡ l′ .answer
+
+-- what a host sees of a call beside the areas
+abbrev pub seen : Call → ℕ × List ℕ × List ℕ
+seen c = (c .verdict, c .image, c .answer)
+
+-- Demand 3 for a host: two hosts whose areas and written values differ only in bytes get the same verdicts, images and answers, call by
+-- call, and the same deliveries and places of own writes.
+-- Ruled out: an entry in which a byte of a message or of an area decides who runs next, is stored in the image, or is shown in an answer.
+abbrev pub HostsAlike : Type 0
+HostsAlike =
+    (priority : ℕ) (bytes bytes′ areas areas′ : List ℕ) (ls ls′ : List Lent) → Started priority bytes → Started priority bytes′
+    → length areas ≡ length areas′ → Forall₂ SameButByte ls ls′
+    → (map seen (callsFrom priority bytes areas ls) ≡ map seen (callsFrom priority bytes′ areas′ ls′))
+    × (movements (runFrom priority areas ls) ≡ movements (runFrom priority areas′ ls′))
+
+-- Every byte of a host's areas has its origin: after the last call each place holds the byte that the deliveries and own writes of the
+-- taken calls, in their order, bring there.
+-- Ruled out: an entry that writes another byte of the areas than its step says.
+abbrev pub HostBytesHaveOrigins : Type 0
+HostBytesHaveOrigins =
+    (priority : ℕ) (bytes areas : List ℕ) (ls : List Lent) → Started priority bytes → let u = runFrom priority areas ls in
+    map (valueOf areas u) (origins (length areas) u) ≡ lastOf areas (map (λ c. c .areas) (callsFrom priority bytes areas ls))
+
+-- The same for printed lines, wide or not: two inputs of kernel-run that differ only in written bytes print the same lines, whatever table
+-- they start from and whatever the areas hold. That what it prints are the lines of its input's run is lines/Printed.PrintedIsRun.
+abbrev pub LinesAlike : Type 0
+LinesAlike =
+    (wide : Bool) (t : Table) (areas areas′ input input′ : List ℕ) → length areas ≡ length areas′
+    → SameButWrites (requests input) (requests input′)
+    → linesFrom wide 1 (run t areas (requests input)) ≡ linesFrom wide 1 (run t areas′ (requests input′))

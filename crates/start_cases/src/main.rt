@@ -1,0 +1,64 @@
+// Reads starts of the byte entry from standard input, and writes what the entry did.
+//
+// A start is eight bytes, the priority and the image's length, each a word with the lowest byte first. For each the verdict is
+// written as four bytes, and then the image, whose bytes were all 0xA5 before the call.
+use entry::kernel_start;
+use image::words::word;
+use libc::STDERR_FILENO;
+use libc::STDIN_FILENO;
+use libc::STDOUT_FILENO;
+
+// How long a start is.
+const START: usize = 8;
+
+// The longest image.
+const MOST: usize = 16384;
+
+// What an image holds before the call, so that every byte written is seen.
+const BEFORE: u8 = 0xA5;
+
+// Starts a kernel, and writes what came of it. Answers whether all was written.
+fn call(priority: u32, image: &mut [u8]) -> bool {
+    let verdict = kernel_start(priority, &mut *image);
+    let shown = [
+        (verdict % 256) as u8,
+        (verdict / 256 % 256) as u8,
+        (verdict / 65536 % 256) as u8,
+        (verdict / 16777216 % 256) as u8,
+    ];
+    io::write_all(STDOUT_FILENO, &shown) && io::write_all(STDOUT_FILENO, &*image)
+}
+
+// One start. Answers whether to go on.
+fn run_start() -> bool {
+    let mut asked = [0u8; START];
+    let got = io::read_full(STDIN_FILENO, &mut asked);
+    if got == 0 {
+        return false;
+    }
+    if got < START {
+        io::write_all(STDERR_FILENO, b"start_cases: the last start is cut short\n");
+        return false;
+    }
+    let length = word(asked[4], asked[5], asked[6], asked[7]) as usize;
+    if MOST < length {
+        io::write_all(
+            STDERR_FILENO,
+            b"start_cases: an image is longer than 16384 bytes\n",
+        );
+        return false;
+    }
+    let mut image = [BEFORE; MOST];
+    call(
+        word(asked[0], asked[1], asked[2], asked[3]),
+        &mut image[..length],
+    )
+}
+
+// A proved loop has to end, and nothing says that the input does.
+fn main() {
+    let mut turns = u64::MAX;
+    while 0 < turns && run_start() {
+        turns -= 1;
+    }
+}
