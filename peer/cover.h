@@ -1,9 +1,87 @@
 /* What the comparison must have reached, and the marks that count it. Only a
  * build with -DCOVER counts; in every other build the marks vanish. Each mark
- * in kernel.c, image.c and main.c is a line of its own with MARK in it, so
- * that without these lines the first two are what their author wrote. */
+ * in kernel.c, image.c, clock.c and main.c is a line of its own with MARK in
+ * it, so that without these lines the first two are what their author wrote. */
 #ifndef PEER_COVER_H
 #define PEER_COVER_H
+
+/* Where two reasons hold the text has the one that is answered first. What is
+ * said of places is true of a clock that takes the lowest free one. */
+#define CLOCK_PATHS(X) \
+    X(CLOCK_BEFORE, "clock: message before the first new clock") \
+    X(CLOCK_NEW, "clock: new clock") \
+    X(CLOCK_NEW_ASLEEP, "clock: new clock after one with sleepers") \
+    X(CLOCK_CUT, "clock: input ending in an incomplete record") \
+    X(CLOCK_FAR_TID, "clock: message from a tid past 32") \
+    X(CLOCK_EMPTY, "clock: -4, length 0") \
+    X(CLOCK_SHORT, "clock: -4, length 1 to 7") \
+    X(CLOCK_LONG, "clock: -4, length past 8") \
+    X(CLOCK_LENGTH_TICK, "clock: -4, length alone, tick of the notifier") \
+    X(CLOCK_LENGTH_TIME, "clock: -4, length alone, Time") \
+    X(CLOCK_LENGTH_ONCE, "clock: -4, length alone, delay due at once") \
+    X(CLOCK_LENGTH_SLEEP, "clock: -4, length alone, delay that would sleep") \
+    X(CLOCK_LENGTH_2, "clock: -4 by length where -2 holds too") \
+    X(CLOCK_LENGTH_3, "clock: -4 by length where -3 holds too") \
+    X(CLOCK_OP_NONE, "clock: -4, op 0") \
+    X(CLOCK_OP_PAST, "clock: -4, op past 4") \
+    X(CLOCK_TICK_ARGUMENT, "clock: -4, tick of the notifier, argument") \
+    X(CLOCK_TIME_ARGUMENT, "clock: -4, Time, argument") \
+    X(CLOCK_TICK_OTHER, "clock: -4, tick from another tid") \
+    X(CLOCK_TICK_SLEEPER, "clock: -4, tick from another tid that sleeps") \
+    X(CLOCK_TICK_NOBODY, "clock: -4, tick where the notifier is tid 0") \
+    X(CLOCK_ASLEEP_DELAY, "clock: -4, Delay from one asleep") \
+    X(CLOCK_ASLEEP_ZERO, "clock: -4, Delay of 0 from one asleep") \
+    X(CLOCK_ASLEEP_UNTIL, "clock: -4, DelayUntil from one asleep") \
+    X(CLOCK_ASLEEP_DUE, "clock: -4, DelayUntil from one asleep, due") \
+    X(CLOCK_ASLEEP_2, "clock: -4, asleep, where -2 holds too") \
+    X(CLOCK_ASLEEP_3, "clock: -4, asleep, where -3 holds too") \
+    X(CLOCK_ASLEEP_2_FULL, "clock: -4, asleep, where -2 holds too, full") \
+    X(CLOCK_NEGATIVE, "clock: -2") \
+    X(CLOCK_NEGATIVE_ONE, "clock: -2, Delay of -1") \
+    X(CLOCK_NEGATIVE_MOST, "clock: -2, Delay of -2^31") \
+    X(CLOCK_NEGATIVE_FULL, "clock: -2 where all places are taken") \
+    X(CLOCK_FULL_DELAY, "clock: -3, Delay") \
+    X(CLOCK_FULL_UNTIL, "clock: -3, DelayUntil") \
+    X(CLOCK_TIME, "clock: Time") \
+    X(CLOCK_TIME_ASLEEP, "clock: Time from one asleep") \
+    X(CLOCK_TIME_FULL, "clock: Time where all places are taken") \
+    X(CLOCK_ZERO, "clock: at once, Delay of 0") \
+    X(CLOCK_ZERO_FULL, "clock: at once, Delay of 0, full") \
+    X(CLOCK_DUE_NOW, "clock: at once, DelayUntil the count") \
+    X(CLOCK_DUE_ONE, "clock: at once, DelayUntil one behind") \
+    X(CLOCK_DUE_MOST, "clock: at once, DelayUntil 2^31 - 1 behind") \
+    X(CLOCK_DUE_WRAPPED, "clock: at once, DelayUntil behind the wrap") \
+    X(CLOCK_DUE_FULL, "clock: at once, DelayUntil due, full") \
+    X(CLOCK_DELAY_SLEEPS, "clock: asleep by Delay") \
+    X(CLOCK_DELAY_ONE, "clock: asleep by Delay of 1") \
+    X(CLOCK_DELAY_MOST, "clock: asleep by Delay of 2^31 - 1") \
+    X(CLOCK_DELAY_WRAPS, "clock: asleep by Delay across the wrap") \
+    X(CLOCK_DELAY_TO_WRAP, "clock: asleep by Delay to count 0") \
+    X(CLOCK_UNTIL_SLEEPS, "clock: asleep by DelayUntil") \
+    X(CLOCK_UNTIL_ONE, "clock: asleep by DelayUntil one ahead") \
+    X(CLOCK_UNTIL_NEAR, "clock: asleep by DelayUntil 2^31 - 1 ahead") \
+    X(CLOCK_UNTIL_MOST, "clock: asleep by DelayUntil 2^31 ahead") \
+    X(CLOCK_UNTIL_WRAPS, "clock: asleep by DelayUntil across the wrap") \
+    X(CLOCK_UNTIL_TO_WRAP, "clock: asleep by DelayUntil count 0") \
+    X(CLOCK_LAST_PLACE, "clock: asleep in the last place") \
+    X(CLOCK_AGAIN, "clock: asleep in a place used before") \
+    X(CLOCK_AGAIN_LAST, "clock: the last free place, used before") \
+    X(CLOCK_NOTIFIER_SLEEPS, "clock: the notifier asleep") \
+    X(CLOCK_TICK_ALONE, "clock: tick where nobody sleeps") \
+    X(CLOCK_TICK_PASSES, "clock: tick where none of the sleepers is due") \
+    X(CLOCK_WAKES_ONE, "clock: tick that wakes one") \
+    X(CLOCK_WAKES_SEVERAL, "clock: tick that wakes several") \
+    X(CLOCK_WAKES_ALL, "clock: tick that wakes all 16") \
+    X(CLOCK_WAKES_SOME, "clock: tick that wakes some and leaves some") \
+    X(CLOCK_WAKES_TIDS, "clock: arrival is not the order of tids") \
+    X(CLOCK_WAKES_PLACES, "clock: arrival is not the order of places") \
+    X(CLOCK_WAKES_SORTS, "clock: both sorts of delay due at one tick") \
+    X(CLOCK_WAKES_NOTIFIER, "clock: the notifier woken by its own tick") \
+    X(CLOCK_WRAPS, "clock: tick to count 0") \
+    X(CLOCK_WRAPS_PASSES, "clock: tick to count 0, sleepers, none due") \
+    X(CLOCK_WRAPS_WAKES, "clock: tick to count 0 that wakes") \
+    X(CLOCK_WAKES_AFTER, "clock: woken past a wrap since it slept") \
+    X(CLOCK_HALF, "clock: tick to count 2^31")
 
 #define COVER_PATHS(X) \
     X(REFUSAL_1, "refusal 1") \
@@ -96,7 +174,8 @@
     X(SHOW_VALUE, "shown: value, from 0") \
     X(SHOW_FROM, "shown: value with from") \
     X(SHOW_FAULT, "shown: fault") \
-    X(SHOW_IDLE, "shown: no ready task")
+    X(SHOW_IDLE, "shown: no ready task") \
+    CLOCK_PATHS(X)
 
 /* Rules of a table; the mask says for which states of the record at fault a
  * break can be met (bit 0 unused up to bit 7 exited). */
@@ -139,6 +218,7 @@
     X(RULE_WAITING_SENDER, 0x08, "sender queued at a waiter")
 
 #ifdef COVER
+#include "clock.h"
 #include "kernel.h"
 
 #define COVER_NAME(name, text) name,
@@ -159,6 +239,13 @@ void cover_program(int argc, char **argv); /* `cover` prints and ends */
 void cover_refused(uint32_t verdict, uint32_t active,
                    const struct request *q);
 bool cover_byte(uint8_t byte, bool is_state); /* true */
+void cover_no_sleepers(void);
+void cover_recorded(const struct clock *c, const struct clock_message *m);
+void cover_heard(const struct clock *c, const struct clock_message *m,
+                 int32_t status);
+void cover_sleeps(const struct clock *c, const struct clock_message *m,
+                  uint32_t due);
+void cover_ticked(const struct clock *c, const struct clock_answers *given);
 
 /* A path was taken; some paths stand beside each other for a number added. */
 #define MARK(path) ((void)cover_paths[path]++)
@@ -185,6 +272,14 @@ bool cover_byte(uint8_t byte, bool is_state); /* true */
 #define MARK_EACH_BYTE(byte, is_state) if (cover_byte(byte, is_state))
 #define MARK_RULE() ((void)cover_rules[cover_rule][cover_state]++)
 
+/* The clock: a record read; a message heard and how it was judged; a sender
+ * about to sleep; a tick and its answers. */
+#define MARK_NO_SLEEPERS() cover_no_sleepers()
+#define MARK_RECORDED(c, m) cover_recorded(c, m)
+#define MARK_HEARD(c, m, status) cover_heard(c, m, status)
+#define MARK_SLEEPS(c, m, due) cover_sleeps(c, m, due)
+#define MARK_TICKED(c, given) cover_ticked(c, given)
+
 #define MARK_PROGRAM(argc, argv) cover_program(argc, argv)
 #else
 #define MARK(path) ((void)0)
@@ -199,6 +294,11 @@ bool cover_byte(uint8_t byte, bool is_state); /* true */
 #define MARK_AND_ASK(rule)
 #define MARK_EACH_BYTE(byte, is_state)
 #define MARK_RULE() ((void)0)
+#define MARK_NO_SLEEPERS() ((void)0)
+#define MARK_RECORDED(c, m) ((void)0)
+#define MARK_HEARD(c, m, status) ((void)0)
+#define MARK_SLEEPS(c, m, due) ((void)0)
+#define MARK_TICKED(c, given) ((void)0)
 #define MARK_PROGRAM(argc, argv) ((void)0)
 #endif
 

@@ -5,7 +5,8 @@
 
 #include "kernel.h"
 
-enum { LINE = 128, CHUNK = 16384 };
+/* A clock gives at most 17 answers; one that is wrong may give more. */
+enum { LINE = 128, CHUNK = 16384, MOST = 64 };
 
 static const char *const chunk_name[] = {"image", "areas", "record",
                                          "answer"};
@@ -129,6 +130,16 @@ static void get_started(FILE *f, uint32_t length, struct outcome *o)
     o->whole = fread(o->bytes[0], 1, length, f) == length;
 }
 
+static int after_last(const char *what, FILE *a, FILE *b)
+{
+    bool more = getc(a) != EOF;
+    if (!more && getc(b) == EOF)
+        return 0;
+    printf("after the last %s: %s gave more\n", what,
+           more ? "the peer" : "the other");
+    return 1;
+}
+
 /* Only the input says how long each image is. */
 static int starts(FILE *a, FILE *b, FILE *in)
 {
@@ -146,12 +157,67 @@ static int starts(FILE *a, FILE *b, FILE *in)
             return 1;
         }
     }
-    bool more = getc(a) != EOF;
-    if (!more && getc(b) == EOF)
-        return 0;
-    printf("after the last start: %s gave more\n", more ? "the peer"
-                                                        : "the other");
-    return 1;
+    return after_last("start", a, b);
+}
+
+/* What a message was answered. */
+struct heard {
+    bool whole;
+    uint32_t number, word[MOST][3];
+};
+
+static void get_heard(FILE *f, struct heard *h)
+{
+    memset(h, 0, sizeof *h);
+    if (!get_word(f, &h->number) || h->number > MOST)
+        return;
+    for (uint32_t i = 0; i < h->number; i++)
+        for (int j = 0; j < 3; j++)
+            if (!get_word(f, &h->word[i][j]))
+                return;
+    h->whole = true;
+}
+
+static void tell_heard(const char *who, const struct heard *h)
+{
+    printf("  %s:", who);
+    if (!h->whole)
+        printf(" nothing whole");
+    else if (h->number == 0)
+        printf(" no answer");
+    for (uint32_t i = 0; h->whole && i < h->number; i++)
+        printf("%s tid %lu status %ld count %lu", i > 0 ? "," : "",
+               (unsigned long)h->word[i][0], (long)(int32_t)h->word[i][1],
+               (unsigned long)h->word[i][2]);
+    printf("\n");
+}
+
+/* Messages are counted from 1, over all clocks of the input. */
+static int clocks(FILE *a, FILE *b, FILE *in)
+{
+    static struct heard peer, other;
+    uint32_t word[4];
+    unsigned long messages = 0, clock = 0;
+    while (get_word(in, &word[0]) && get_word(in, &word[1]) &&
+           get_word(in, &word[2]) && get_word(in, &word[3])) {
+        clock += word[0] == 0;
+        if (word[0] == 0)
+            continue;
+        messages++;
+        get_heard(a, &peer);
+        get_heard(b, &other);
+        if (memcmp(&peer, &other, sizeof peer) != 0) {
+            printf("message %lu, new clock %lu: tid %lu, length %lu, op %lu, "
+                   "argument %lu (signed %ld)\n", messages, clock,
+                   (unsigned long)word[0], (unsigned long)word[1],
+                   (unsigned long)word[2], (unsigned long)word[3],
+                   (long)(int32_t)word[3]);
+            tell_heard("peer", &peer);
+            tell_heard("other", &other);
+            return 1;
+        }
+    }
+    return after_last("message", a, b);
 }
 
 int main(int argc, char **argv)
@@ -165,7 +231,9 @@ int main(int argc, char **argv)
         return cases(a, b);
     if (a && b && in && strcmp(argv[1], "starts") == 0)
         return starts(a, b, in);
+    if (a && b && in && strcmp(argv[1], "clocks") == 0)
+        return clocks(a, b, in);
     fputs("usage: differ lines|cases PEER OTHER\n"
-          "       differ starts PEER OTHER INPUT\n", stderr);
+          "       differ starts|clocks PEER OTHER INPUT\n", stderr);
     return 2;
 }

@@ -1,4 +1,5 @@
-/* Writes request streams, byte-entry cases and starts to standard output. */
+/* Writes request streams, byte-entry cases, starts and histories of clocks to
+ * standard output. */
 #include "generate.h"
 
 #include <stdio.h>
@@ -163,6 +164,8 @@ int main(int argc, char **argv)
         return first_run();
     if (argc == 2 && strcmp(argv[1], "fixed-starts") == 0)
         return starts_fixed();
+    if (argc == 2 && strcmp(argv[1], "fixed-clocks") == 0)
+        return clocks_fixed();
     if (argc == 4 && strcmp(argv[1], "one-start") == 0)
         return starts_one((uint32_t)strtoul(argv[2], NULL, 10),
                           (uint32_t)strtoul(argv[3], NULL, 10));
@@ -176,12 +179,16 @@ int main(int argc, char **argv)
             return cases(seed, count);
         if (strcmp(argv[1], "starts") == 0)
             return starts_drawn(seed, count);
+        if (strcmp(argv[1], "clock") == 0)
+            return clocks_drawn(seed, count);
     }
     fputs("usage: generate requests SEED STEPS [INDEX]\n"
           "       generate cases SEED COUNT [INDEX]\n"
           "       generate starts SEED COUNT [INDEX]\n"
+          "       generate clock SEED MESSAGES [INDEX]\n"
           "       generate first-run\n"
           "       generate fixed-starts\n"
+          "       generate fixed-clocks\n"
           "       generate one-start PRIORITY LENGTH\n", stderr);
     return 2;
 }

@@ -1,7 +1,8 @@
-/* Seeded requests, byte-entry cases and starts. */
+/* Seeded requests, byte-entry cases, starts and histories of clocks. */
 #ifndef PEER_GENERATE_H
 #define PEER_GENERATE_H
 
+#include "clock.h"
 #include "kernel.h"
 
 enum { STATES = STATE_EXITED + 1 };
@@ -53,5 +54,11 @@ void image_damage(uint64_t *seed, uint8_t *image);
 int starts_one(uint32_t priority, uint32_t length);
 int starts_fixed(void);
 int starts_drawn(uint64_t seed, unsigned long count);
+
+/* Records of the job clock, to standard output: any one, a fixed list, drawn
+ * ones. */
+void clock_words(uint32_t a, uint32_t b, uint32_t c, uint32_t d);
+int clocks_fixed(void);
+int clocks_drawn(uint64_t seed, unsigned long messages);
 
 #endif

@@ -1,6 +1,8 @@
-/* The three jobs: "run", the program of document 01's first run; "cases",
-   which shows what the byte entry does with bytes of any kind; and "start",
-   which shows what a start does with images of any length. */
+/* The four jobs: "run", the program of document 01's first run; "cases",
+   which shows what the byte entry does with bytes of any kind; "start", which
+   shows what a start does with images of any length; and "clock", which shows
+   what a clock answers to the messages that reach it. */
+#include "clock.h"
 #include "kernel.h"
 
 #include <inttypes.h>
@@ -206,6 +208,50 @@ static int start(void)
     return stop(wrong);
 }
 
+static void answers_print(const struct clock_answers *given)
+{
+    number_print(given->number);
+    for (uint32_t i = 0; i < given->number; i++) {
+        number_print(given->answer[i].tid);
+        number_print((uint32_t)given->answer[i].status);
+        number_print(given->answer[i].count);
+    }
+}
+
+/* A sender's tid is never 0, which leaves 0 to say that the record is no
+   message but a new clock. */
+static void clock_record(struct clock *c, const uint8_t *record)
+{
+    struct clock_message m = { number_read(record), number_read(record + 4),
+                               number_read(record + 8),
+                               number_read(record + 12) };
+    struct clock_answers given;
+
+    MARK_RECORDED(c, &m);
+    if (m.sender == 0) {
+        clock_start(c, number_read(record + 4), number_read(record + 8));
+        return;
+    }
+    clock_hear(c, &m, &given);
+    answers_print(&given);
+}
+
+static int clock_messages(void)
+{
+    uint8_t record[CLOCK_RECORD_BYTES];
+    struct clock c;
+    size_t got;
+
+    setvbuf(stdin, NULL, _IOFBF, STREAM_BLOCK);
+    clock_start(&c, 0, 0);
+    while ((got = fread(record, 1, sizeof record, stdin)) == sizeof record)
+        clock_record(&c, record);
+    if (got == 0 && !ferror(stdin))
+        return finish();
+    MARK(CLOCK_CUT);
+    return stop("the last record is cut short");
+}
+
 int main(int argc, char **argv)
 {
     MARK_PROGRAM(argc, argv);
@@ -216,6 +262,8 @@ int main(int argc, char **argv)
         return cases();
     if (argc == 2 && strcmp(argv[1], "start") == 0)
         return start();
-    fprintf(stderr, "usage: peer run|cases|start\n");
+    if (argc == 2 && strcmp(argv[1], "clock") == 0)
+        return clock_messages();
+    fprintf(stderr, "usage: peer run|cases|start|clock\n");
     return 2;
 }

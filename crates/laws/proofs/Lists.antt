@@ -1,7 +1,7 @@
 -- What holds of every entry of a list and what stands in one: lists that are mapped, joined or counted up, and entries that are stored.
 use Prim.Native.Nat.{ℕ, zero, suc, _+_, _≤_, _<_}
 use mathlib.Core.Path.{_≡_, refl, ap, _∙_}
-use mathlib.Core.List.{List, [], _∷_, _++_, map, flatten}
+use mathlib.Core.List.{List, [], _∷_, _++_, map}
 use native.Mathlib.Nat.{add-zero, add-suc, suc-add, add-sub-cancel-left}
 use native.Mathlib.Decide.{ℕ-discrete}
 use native.Mathlib.Omega.{arith}
@@ -53,10 +53,6 @@ module _ {A : Type 0} {P : A → Type 0} where
   pub every-copied : {xs : List A} → Every P xs → (source dest n : ℕ) → Every P (sets xs dest (take n (drop source xs)))
   every-copied ps source dest n = every-sets (every-take n (every-drop source ps)) ps dest
 
-  pub every-append : {xs ys : List A} → Every P xs → Every P ys → Every P (xs ++ ys)
-  every-append none qs = qs
-  every-append (more p ps) qs = more p (every-append ps qs)
-
   -- what holds of f of each number holds of every entry that f makes of the numbers
   pub every-numbered : (f : ℕ → A) (n k : ℕ) → ((i : ℕ) → i < k + n → P (f i)) → Every P (map f (numbers k n))
   unfolding numbers
@@ -66,13 +62,6 @@ module _ {A : Type 0} {P : A → Type 0} where
 pub every-map : {A : Type 0} {P Q : A → Type 0} → ((a : A) → P a → Q a) → {xs : List A} → Every P xs → Every Q xs
 every-map f none = none
 every-map f (more {x} p ps) = more (f x p) (every-map f ps)
-
--- of lists that are joined, what holds of every entry of each
-pub every-flatten : {A B : Type 0} {P : A → Type 0} {Q : B → Type 0} (f : A → List B) → ((a : A) → P a → Every Q (f a))
-    → {xs : List A} → Every P xs → Every Q (flatten (map f xs))
-unfolding flatten
-every-flatten f h none = none
-every-flatten f h (more {x} p ps) = every-append (h x p) (every-flatten f h ps)
 
 module _ {A : Type 0} where
   -- every entry of a list stands in it, whatever is put behind it or before it

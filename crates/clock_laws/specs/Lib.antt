@@ -1,0 +1,4 @@
+-- To be read in this order.
+
+pub mod Laws
+pub mod Example

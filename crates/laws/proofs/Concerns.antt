@@ -1,0 +1,169 @@
+-- Whom an entry concerns beside the caller: what the four tests of `View` tell, and how each leaves the record of slot s.
+use Prim.Native.Nat.{ℕ, _<_}
+use mathlib.Core.Path.{_≡_, ap, _∙_}
+use mathlib.Core.Logic.{_≢_}
+use mathlib.Core.Bool.{Bool, true, false}
+use native.Mathlib.Omega.{arith}
+use borrow.Author.Tests.{eqb-true, eq-eqb, ltb-true, lt-ltb}
+use Rattle.queue.specs.Numbering.{sendQueue}
+use Rattle.queue.specs.Row.{placeAt}
+use Rattle.queue.proofs.Below.{by-test, both-true, true-both}
+use Rattle.tid.specs.Tid.{markOf, slotOf, tidOf}
+use Rattle.tid.proofs.Trips.{slot-of-mark}
+use Rattle.task.specs.declared.task.Result.the-variants.{Nothing, Value}
+use Rattle.task.specs.declared.task.State.the-variants.{Ready, ReplyBlocked}
+use Rattle.task.specs.Task.{goodBuffer, replyOf, awaited, taskAs}
+use Rattle.kernel.specs.declared.table.Table.{Table}
+use Rattle.kernel.specs.declared.table.Request.{Request}
+use Rattle.kernel.specs.Numbers.{sendKind, receiveKind, replyKind, eventKind}
+use Rattle.kernel.specs.Table.{slots, taskAt, queueAt, activeSlot}
+use Rattle.kernel.specs.Kinds.{signal}
+use Rattle.kernel.specs.Refusal.{Enters}
+use Rattle.kernel.specs.Decide.{activeTid, buffer}
+use Rattle.kernel.proofs.Refusals.{fine}
+use Rattle.rules.specs.Facts.{Good}
+use Rattle.kept.proofs.Tasks.{codeAt}
+use Rattle.kept.proofs.Moves.{sender-head}
+use Rattle.laws.specs.View.{isSentTo, isReceivedFrom, isRepliedTo, isSignalled, othersLeft}
+
+-- a test that cannot pass
+pub fails : {b : Bool} → (b ≡ true → ⊥) → b ≡ false
+fails {b} never = by-test b (λ e. absurd (never e)) (λ e. e)
+
+module _ (t : Table) (r : Request) (s : ℕ) where
+  pub record Sent : Type 0 where
+    pub kind : r .kind ≡ sendKind
+    pub named : r .arg0 ≡ tidOf s
+    pub state : codeAt t s ≡ 3
+    pub message : goodBuffer (buffer (r .arg1) (r .arg2)) ≡ true
+    pub reply : goodBuffer (buffer (r .arg3) (r .arg4)) ≡ true
+
+  pub record Received : Type 0 where
+    pub kind : r .kind ≡ receiveKind
+    pub message : goodBuffer (buffer (r .arg0) (r .arg1)) ≡ true
+    pub some : 0 < queueAt t (sendQueue (activeSlot t)) .len
+    pub head : placeAt (queueAt t (sendQueue (activeSlot t))) 0 ≡ markOf s
+
+  pub record Replied : Type 0 where
+    pub kind : r .kind ≡ replyKind
+    pub named : r .arg0 ≡ tidOf s
+    pub state : codeAt t s ≡ 5
+    pub message : goodBuffer (buffer (r .arg1) (r .arg2)) ≡ true
+
+  pub record Signalled : Type 0 where
+    pub kind : r .kind ≡ eventKind
+    pub state : codeAt t s ≡ 6
+    pub event : awaited (taskAt t s .state) ≡ r .arg0
+
+  pub sent-facts : isSentTo t r s ≡ true → Sent
+  sent-facts h =
+      let four = both-true _ _ h in
+      let three = both-true _ _ (four .0) in
+      let two = both-true _ _ (three .0) in
+      let one = both-true _ _ (two .0) in
+      record {
+        kind = eqb-true (r .kind) sendKind (one .0);
+        named = eqb-true (r .arg0) (tidOf s) (one .1);
+        state = eqb-true (codeAt t s) 3 (two .1);
+        message = three .1;
+        reply = four .1;
+      }
+
+  pub facts-sent : Sent → isSentTo t r s ≡ true
+  facts-sent f =
+      true-both (true-both (true-both (true-both (eq-eqb _ _ (f .kind)) (eq-eqb _ _ (f .named))) (eq-eqb _ 3 (f .state))) (f .message)) (f .reply)
+
+  pub received-facts : isReceivedFrom t r s ≡ true → Received
+  received-facts h =
+      let q = queueAt t (sendQueue (activeSlot t)) in
+      let three = both-true _ _ h in
+      let two = both-true _ _ (three .0) in
+      let one = both-true _ _ (two .0) in
+      record {
+        kind = eqb-true (r .kind) receiveKind (one .0);
+        message = one .1;
+        some = ltb-true 0 (q .len) (two .1);
+        head = eqb-true (placeAt q 0) (markOf s) (three .1);
+      }
+
+  facts-received : Received → isReceivedFrom t r s ≡ true
+  facts-received f =
+      true-both (true-both (true-both (eq-eqb _ _ (f .kind)) (f .message)) (lt-ltb _ _ (f .some))) (eq-eqb _ _ (f .head))
+
+  pub replied-facts : isRepliedTo t r s ≡ true → Replied
+  replied-facts h =
+      let three = both-true _ _ h in
+      let two = both-true _ _ (three .0) in
+      let one = both-true _ _ (two .0) in
+      record {
+        kind = eqb-true (r .kind) replyKind (one .0);
+        named = eqb-true (r .arg0) (tidOf s) (one .1);
+        state = eqb-true (codeAt t s) 5 (two .1);
+        message = three .1;
+      }
+
+  facts-replied : Replied → isRepliedTo t r s ≡ true
+  facts-replied f =
+      true-both (true-both (true-both (eq-eqb _ _ (f .kind)) (eq-eqb _ _ (f .named))) (eq-eqb _ 5 (f .state))) (f .message)
+
+  pub signalled-facts : isSignalled t r s ≡ true → Signalled
+  signalled-facts h =
+      let two = both-true _ _ h in
+      let one = both-true _ _ (two .0) in
+      record {
+        kind = eqb-true (r .kind) eventKind (one .0);
+        state = eqb-true (codeAt t s) 6 (one .1);
+        event = eqb-true (awaited (taskAt t s .state)) (r .arg0) (two .1);
+      }
+
+  facts-signalled : Signalled → isSignalled t r s ≡ true
+  facts-signalled f = true-both (true-both (eq-eqb _ _ (f .kind)) (eq-eqb _ 6 (f .state))) (eq-eqb _ _ (f .event))
+
+  -- at most one of the four is so, and where none is the task is not concerned
+  pub left-sent : Sent → othersLeft t r s ≡ taskAs Ready (Value (activeTid t) (r .arg2)) (taskAt t s)
+  unfolding othersLeft
+  left-sent f = rw (facts-sent f)
+
+  pub left-received : Received → othersLeft t r s ≡ taskAs (ReplyBlocked (replyOf (taskAt t s .state))) Nothing (taskAt t s)
+  unfolding othersLeft
+  left-received f = rw (fails (λ e. let g = sent-facts e in omega arith), facts-received f)
+
+  pub left-replied : Replied → othersLeft t r s ≡ taskAs Ready (Value 0 (r .arg2)) (taskAt t s)
+  unfolding othersLeft
+  left-replied f =
+      rw (fails (λ e. let g = sent-facts e in omega arith), fails (λ e. let g = received-facts e in omega arith), facts-replied f)
+
+  pub left-signalled : Signalled → othersLeft t r s ≡ taskAs Ready (signal (r .arg1)) (taskAt t s)
+  unfolding othersLeft
+  left-signalled f =
+      rw (
+        fails (λ e. let g = sent-facts e in omega arith),
+        fails (λ e. let g = received-facts e in omega arith),
+        fails (λ e. let g = replied-facts e in omega arith),
+        facts-signalled f,
+      )
+
+  pub left-aside : (Sent → ⊥) → (Received → ⊥) → (Replied → ⊥) → (Signalled → ⊥) → othersLeft t r s ≡ taskAt t s
+  unfolding othersLeft
+  left-aside a b c d =
+      rw (
+        fails (λ e. a (sent-facts e)),
+        fails (λ e. b (received-facts e)),
+        fails (λ e. c (replied-facts e)),
+        fails (λ e. d (signalled-facts e)),
+      )
+
+-- whose message is received is receive-blocked
+pub received-state : {n : ℕ} {t : Table} {r : Request} {s : ℕ} → Good n t → Enters (slots t) (activeSlot t) r → Received t r s → codeAt t s ≡ 4
+received-state {n} {t} {r} {s} good enters f =
+    let known = fine (slots t) (activeSlot t) r (enters .0) in
+    let here : activeSlot t < slots t = known .caller (λ ten. omega arith) in
+    let code = sender-head (good .rules) (activeSlot t) (omega (arith, good .rules .size)) (f .some) in
+    let slot : slotOf (placeAt (queueAt t (sendQueue (activeSlot t))) 0) ≡ s = ap slotOf (f .head) ∙ slot-of-mark s in
+    rw slot at code
+
+-- who waits for no message, no reply and no event, and is in no send queue, is not concerned
+pub left-alone : {n : ℕ} {t : Table} (good : Good n t) (r : Request) (s : ℕ) → Enters (slots t) (activeSlot t) r
+    → codeAt t s ≢ 3 → codeAt t s ≢ 4 → (codeAt t s ≡ 5 → Replied t r s → ⊥) → codeAt t s ≢ 6 → othersLeft t r s ≡ taskAt t s
+left-alone {n} {t} good r s enters three four five six =
+    left-aside t r s (λ f. three (f .state)) (λ f. four (received-state good enters f)) (λ f. five (f .state) f) (λ f. six (f .state))

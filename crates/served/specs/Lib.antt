@@ -1,0 +1,5 @@
+-- To be read in this order.
+
+pub mod World
+pub mod Letters
+pub mod Laws

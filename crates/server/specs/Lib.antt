@@ -1,0 +1,5 @@
+-- To be read in this order.
+
+pub mod Phase
+pub mod Records
+pub mod Service
