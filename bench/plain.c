@@ -181,6 +181,13 @@ static void create(struct task *me, int32_t priority)
     }
 }
 
+static void leaves(struct task *me)
+{
+    while (me->senders.head)
+        wake(leave(&me->senders), FAULT, -2, 0);
+    me->state = EXITED;
+}
+
 static void await(struct task *me, int32_t event)
 {
     if (event < 0 || event >= PLAIN_EVENTS) {
@@ -214,7 +221,7 @@ struct plain_answer plain_step(const struct plain_request *q, uint8_t *areas)
     case MY_TID: wake(me, VALUE, me->tid, 0); break;
     case MY_PARENT_TID: wake(me, VALUE, me->parent, 0); break;
     case YIELD: wake(me, VALUE, 0, 0); break;
-    case EXIT: me->state = EXITED; break;
+    case EXIT: leaves(me); break;
     case SEND:
         fault = send(me, q->arg, areas);
         if (fault)

@@ -1,10 +1,11 @@
-/* A host with two tasks: a client, and a gain task that answers what the gain is. The gain task exits after one reading. What the
- * client is told next is a fault and not a number, although the old number still lies in its memory. */
+/* A host with three tasks: a client, a gain task that answers what the gain is, and a panel that asks for it when a key is pressed.
+ * The gain task exits after one reading. The panel, whose question it has not received, is told a fault and does not hang; the client
+ * asks again and is told a fault and not a number, although the old number still lies in its memory. */
 #include <stdio.h>
 #include <stdlib.h>
 #include "bredonych.h"
 
-enum { CLIENT = 1, GAIN = 2, ASKED = 0, READING = 8, TRUE_GAIN = 42 };
+enum { CLIENT = 1, GAIN = 2, PANEL = 3, KEY = 1, ASKED = 0, READING = 8, TRUE_GAIN = 42 };
 
 static uint8_t image[BREDONYCH_IMAGE], areas[BREDONYCH_AREAS];
 
@@ -35,7 +36,7 @@ static struct told ask(int32_t kind, int32_t a, int32_t b, int32_t c, int32_t d,
     return (struct told){word_at(answer + 4), word_at(answer + 8), (int32_t)word_at(answer + 12), word_at(answer + 16)};
 }
 
-/* The client: makes the gain task, asks it twice, and says what it learnt. */
+/* The client: makes the others, asks the gain task twice, and says what it learnt. */
 static struct told client(struct told told)
 {
     static int stage;
@@ -44,9 +45,12 @@ static struct told client(struct told told)
         printf("client: makes the gain task, of a higher priority\n");
         return ask(BREDONYCH_CREATE, 8, 0, 0, 0, 0);
     case 1:
-        printf("client: the gain task is task %d; asks it for the gain\n", (int)told.word);
-        return ask(BREDONYCH_SEND, GAIN, ASKED, 1, READING, 1);
+        printf("client: the gain task is task %d; makes the panel, of a still higher priority\n", (int)told.word);
+        return ask(BREDONYCH_CREATE, 4, 0, 0, 0, 0);
     case 2:
+        printf("client: the panel is task %d; asks the gain task for the gain\n", (int)told.word);
+        return ask(BREDONYCH_SEND, GAIN, ASKED, 1, READING, 1);
+    case 3:
         printf("client: a reply of %d byte: the gain is %d\n", (int)told.word, areas[READING]);
         printf("client: asks again\n");
         return ask(BREDONYCH_SEND, GAIN, ASKED, 1, READING, 1);
@@ -60,7 +64,28 @@ static struct told client(struct told told)
     }
 }
 
-/* The gain task: answers one question and is gone. */
+/* The panel: waits for its key, asks for the gain, and says what it learnt. */
+static struct told panel(struct told told)
+{
+    static int stage;
+    switch (stage++) {
+    case 0:
+        printf("panel: waits for its key\n");
+        return ask(BREDONYCH_AWAIT_EVENT, KEY, 0, 0, 0, 0);
+    case 1:
+        printf("panel: asks the gain task for the gain, and waits until that receives\n");
+        return ask(BREDONYCH_SEND, GAIN, ASKED, 1, READING, 1);
+    default:
+        if (told.kind != BREDONYCH_FAULT) {
+            printf("panel: was told %d, which nobody measured\n", (int)told.word);
+            exit(1);
+        }
+        printf("panel: fault %d, the gain task has exited and will not receive: there is no reading; exits\n", (int)told.word);
+        return ask(BREDONYCH_EXIT, 0, 0, 0, 0, 0);
+    }
+}
+
+/* The gain task: answers one question and is gone. A key is pressed while it measures. */
 static struct told gain(struct told told)
 {
     static int stage;
@@ -69,9 +94,13 @@ static struct told gain(struct told told)
         printf("gain task: waits for a question\n");
         return ask(BREDONYCH_RECEIVE, 0, 4, 0, 0, 0);
     case 1:
-        printf("gain task: a question of %d byte from task %u; measures %d\n", (int)told.word, (unsigned)told.from, TRUE_GAIN);
-        return ask(BREDONYCH_OWN_WRITE, 4, TRUE_GAIN, 0, 0, 0);
+        printf("gain task: a question of %d byte from task %u; measures, and is interrupted by a key\n", (int)told.word,
+               (unsigned)told.from);
+        return ask(BREDONYCH_EVENT, KEY, 0, 0, 0, 0);
     case 2:
+        printf("gain task: goes on; it is %d\n", TRUE_GAIN);
+        return ask(BREDONYCH_OWN_WRITE, 4, TRUE_GAIN, 0, 0, 0);
+    case 3:
         printf("gain task: replies\n");
         return ask(BREDONYCH_REPLY, CLIENT, 4, 1, 0, 0);
     default:
@@ -87,6 +116,6 @@ int main(void)
     printf("a kernel starts: task 1 is the client\n");
     struct told told = {CLIENT, BREDONYCH_NOTHING, 0, 0};
     while (told.next != 0)
-        told = told.next == GAIN ? gain(told) : client(told);
+        told = told.next == GAIN ? gain(told) : told.next == PANEL ? panel(told) : client(told);
     return 1;
 }

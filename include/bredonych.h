@@ -35,7 +35,7 @@ enum bredonych_kind {
     BREDONYCH_MY_TID = 2,        /* the value is the caller's id */
     BREDONYCH_MY_PARENT_TID = 3, /* the value is its parent's id, 0 for task 1 */
     BREDONYCH_YIELD = 4,         /* let others run; the value is 0 */
-    BREDONYCH_EXIT = 5,          /* the caller is no more */
+    BREDONYCH_EXIT = 5,          /* the caller is no more; who waits for it to receive is told a fault */
     BREDONYCH_SEND = 6,          /* task, message offset and length, reply offset and length: the value is the reply's full length */
     BREDONYCH_RECEIVE = 7,       /* offset, length: the value is the message's full length, from its sender */
     BREDONYCH_REPLY = 8,         /* task, offset, length: the value is how many bytes were copied */
@@ -72,6 +72,7 @@ enum bredonych_fault {
     BREDONYCH_CREATE_FULL = -2,      /* all 32 tasks have been made */
     BREDONYCH_SEND_NO_TASK = -1,     /* never made, or it has exited */
     BREDONYCH_SEND_ITSELF = -2,
+    BREDONYCH_SEND_NOT_RECEIVED = -2, /* told to a waiting sender: the task exited before it received the message */
     BREDONYCH_SEND_BUFFER = -3,      /* either buffer is not within the area */
     BREDONYCH_RECEIVE_BUFFER = -3,
     BREDONYCH_REPLY_NO_TASK = -1,

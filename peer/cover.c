@@ -143,6 +143,171 @@ bool cover_byte(uint8_t byte, bool is_state)
     return true;
 }
 
+/* ---- senders whose target exits ---- */
+
+/* What no table tells of a task. */
+static struct {
+    uint32_t receiver; /* who received its last message, 0: not known */
+    uint32_t door;     /* whose exit let it go last, 0: nobody's */
+    bool owed;         /* that -2 is not yet shown */
+} past[TASKS + 1];
+
+/* The senders that the Exit in hand lets go; none, while there is none. */
+static struct {
+    uint32_t number, head;
+    bool is_in[TASKS + 1];
+} let_go;
+
+/* Of the table last asked whether its targets exist. */
+static struct {
+    uint32_t active, senders; /* senders: those whose target exited */
+} closed;
+
+void cover_forget(void)
+{
+    memset(past, 0, sizeof past);
+}
+
+/* One sender, and those who stand behind it in the queue. */
+static void count_let_go(const struct table *k, uint32_t tid)
+{
+    const struct task *t = &k->task[tid];
+    uint32_t own = k->task[k->active].priority;
+    MARK(t->priority < own ? DOOR_ABOVE
+         : t->priority == own ? DOOR_EQUAL : DOOR_BELOW);
+    MARK(k->ready[t->priority].length > 0 ? DOOR_TAIL : DOOR_FIRST_READY);
+    MARK_IF(t->senders.length > 0, DOOR_CHAIN);
+    MARK_IF(past[tid].door != 0, DOOR_TWICE);
+    for (uint32_t later = t->next; later != 0; later = k->task[later].next) {
+        MARK_IF(k->task[later].priority < t->priority, DOOR_PRIORITIES);
+        MARK_IF(k->task[later].priority == t->priority && later < tid,
+                DOOR_TIDS);
+    }
+}
+
+/* The tasks that an Exit with senders leaves as they are. */
+static void count_staying(const struct table *k)
+{
+    for (uint32_t tid = 1; tid <= k->used; tid++) {
+        const struct task *t = &k->task[tid];
+        if (t->state == STATE_REPLY_BLOCKED) {
+            MARK(DOOR_REPLY);
+            MARK_IF(past[tid].receiver == k->active, DOOR_RECEIVED);
+        }
+        MARK_IF(t->state == STATE_RECEIVE_BLOCKED &&
+                t->waits_for != k->active, DOOR_ELSEWHERE);
+    }
+}
+
+void cover_exit(const struct table *k)
+{
+    const struct queue *q = &k->task[k->active].senders;
+    if (q->length == 0)
+        return;
+    MARK(q->length == 1 ? DOOR_ONE : DOOR_SEVERAL);
+    MARK_IF(q->length == TASKS - 1, DOOR_CROWD);
+    MARK_IF(past[k->active].door != 0, DOOR_AGAIN);
+    count_staying(k);
+    let_go.number = q->length;
+    let_go.head = q->head;
+    for (uint32_t tid = q->head; tid != 0; tid = k->task[tid].next) {
+        count_let_go(k, tid);
+        let_go.is_in[tid] = true;
+        past[tid].door = k->active;
+        past[tid].owed = true;
+    }
+}
+
+/* The end of an entry, after the next task was shown its result. */
+void cover_exited(bool exited, uint32_t next)
+{
+    if (!exited)
+        return;
+    MARK(next == 0 ? EXIT_TO_IDLE : EXIT_TO_TASK);
+    if (let_go.number > 0)
+        MARK(next == let_go.head ? DOOR_TO_HEAD
+             : let_go.is_in[next] ? DOOR_TO_LATER : DOOR_TO_OTHER);
+    memset(&let_go, 0, sizeof let_go);
+}
+
+void cover_shown(uint32_t tid)
+{
+    MARK_IF(past[tid].owed && !let_go.is_in[tid], DOOR_SHOWN_LATER);
+    past[tid].owed = false;
+}
+
+void cover_sent(const struct table *k, uint32_t tid, bool taken)
+{
+    uint32_t door = past[k->active].door;
+    MARK_IF(!taken && door != 0 && tid == door, DOOR_SEND);
+    MARK_IF(taken && door != 0, DOOR_SEND_OTHER);
+}
+
+void cover_received(uint32_t receiver, uint32_t sender)
+{
+    past[sender].receiver = receiver;
+}
+
+void cover_replied(const struct table *k, uint32_t tid, bool taken)
+{
+    uint32_t receiver = past[tid].receiver;
+    MARK_IF(!taken && past[tid].owed, DOOR_LET_GO_REPLY);
+    MARK_IF(taken && receiver != 0 &&
+            k->task[receiver].state == STATE_EXITED, DOOR_STAYED_REPLY);
+}
+
+void cover_targets(const struct table *k)
+{
+    closed.active = k->active;
+    closed.senders = 0;
+    for (uint32_t tid = 1; tid <= k->used; tid++)
+        closed.senders += k->task[tid].state == STATE_RECEIVE_BLOCKED &&
+                          k->task[k->task[tid].waits_for].state ==
+                              STATE_EXITED;
+}
+
+/* An image that broke no rule: at whom its senders stand. */
+void cover_taken(const struct table *k)
+{
+    bool sending = false, exited = false;
+    for (uint32_t tid = 1; tid <= k->used; tid++) {
+        const struct task *t = &k->task[tid];
+        enum state target;
+        exited = exited || t->state == STATE_EXITED;
+        if (t->state != STATE_RECEIVE_BLOCKED)
+            continue;
+        target = k->task[t->waits_for].state;
+        sending = true;
+        MARK_IF(target == STATE_ACTIVE, TARGET_ACTIVE);
+        MARK_IF(target == STATE_READY, TARGET_READY);
+        MARK_IF(target == STATE_RECEIVE_BLOCKED, TARGET_SENDER);
+        MARK_IF(target == STATE_REPLY_BLOCKED, TARGET_REPLY);
+        MARK_IF(target == STATE_EVENT_BLOCKED, TARGET_EVENT);
+    }
+    MARK_IF(sending && exited, EXITED_ALONE);
+}
+
+/* An image refused by 2; counted if it has no other flaw than a target that
+ * exited, with what else would have refused the step. */
+void cover_closed(struct request q)
+{
+    bool no_kind = q.kind < KIND_CREATE || q.kind > KIND_OWN_WRITE;
+    bool far_event = q.arg[0] < 0 || q.arg[0] >= EVENTS;
+    bool far_write = ((q.arg[0] | q.arg[1]) & ~0xFF) != 0;
+    if (!COVER_CLOSED)
+        return;
+    MARK(closed.senders == 1 ? CLOSED_ONE : CLOSED_SEVERAL);
+    MARK_IF(closed.active == 0, CLOSED_IDLE);
+    if (no_kind)
+        MARK(CLOSED_3);
+    else if (closed.active == 0 && q.kind != KIND_EVENT)
+        MARK(CLOSED_4);
+    else if (q.kind == KIND_EVENT && far_event)
+        MARK(CLOSED_8);
+    else if (q.kind == KIND_OWN_WRITE && far_write)
+        MARK(CLOSED_9);
+}
+
 /* ---- the clock ---- */
 
 /* Who would sleep where in a clock that takes the lowest free place; only so

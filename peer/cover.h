@@ -1,7 +1,7 @@
 /* What the comparison must have reached, and the marks that count it. Only a
  * build with -DCOVER counts; in every other build the marks vanish. Each mark
  * in kernel.c, image.c, clock.c and main.c is a line of its own with MARK in
- * it, so that without these lines the first two are what their author wrote. */
+ * it, so that without these lines the programs are what their authors wrote. */
 #ifndef PEER_COVER_H
 #define PEER_COVER_H
 
@@ -83,6 +83,50 @@
     X(CLOCK_WAKES_AFTER, "clock: woken past a wrap since it slept") \
     X(CLOCK_HALF, "clock: tick to count 2^31")
 
+/* What request P2 asks of an Exit, and of the target of a queued sender. A
+ * sender is let go where its target exits. What needs several steps of one
+ * kernel, from DOOR_RECEIVED to DOOR_STAYED_REPLY, only a run can meet; what
+ * is said of images, only cases. */
+#define DOOR_PATHS(X) \
+    X(DOOR_ONE, "Exit that lets one sender go") \
+    X(DOOR_SEVERAL, "Exit that lets several senders go") \
+    X(DOOR_CROWD, "Exit that lets all 31 others go") \
+    X(DOOR_TO_HEAD, "Exit, the first of its senders goes on") \
+    X(DOOR_TO_LATER, "Exit, a later one of its senders goes on") \
+    X(DOOR_TO_OTHER, "Exit with senders, one ready before goes on") \
+    X(DOOR_REPLY, "Exit with senders, one reply-blocked stays") \
+    X(DOOR_ELSEWHERE, "Exit with senders, those of another stay") \
+    X(DOOR_ABOVE, "let go: of a better priority than who exits") \
+    X(DOOR_EQUAL, "let go: of the same priority") \
+    X(DOOR_BELOW, "let go: of a worse priority") \
+    X(DOOR_FIRST_READY, "let go: the first ready at its priority") \
+    X(DOOR_TAIL, "let go: behind one ready before") \
+    X(DOOR_TIDS, "let go: two of a priority, the higher tid first") \
+    X(DOOR_PRIORITIES, "let go: the better priority last") \
+    X(DOOR_CHAIN, "let go: one with senders of its own") \
+    X(DOOR_RECEIVED, "Exit with senders, another received before") \
+    X(DOOR_AGAIN, "Exit with senders of one let go before") \
+    X(DOOR_TWICE, "let go: for the second time") \
+    X(DOOR_SHOWN_LATER, "shown: -2 of one let go, at a later step") \
+    X(DOOR_SEND, "Send -1 to the task that let the caller go") \
+    X(DOOR_SEND_OTHER, "Send from one let go, taken") \
+    X(DOOR_LET_GO_REPLY, "Reply -2, tid was let go and is ready") \
+    X(DOOR_STAYED_REPLY, "Reply to a task whose receiver exited") \
+    X(TARGET_ACTIVE, "image taken: sender at the active task") \
+    X(TARGET_READY, "image taken: sender at a ready task") \
+    X(TARGET_SENDER, "image taken: sender at a receive-blocked task") \
+    X(TARGET_REPLY, "image taken: sender at a reply-blocked task") \
+    X(TARGET_EVENT, "image taken: sender at an event-blocked task") \
+    X(EXITED_ALONE, "image taken: exited task, senders elsewhere") \
+    X(CLOSED_ONE, "refusal 2, target exited, of one sender") \
+    X(CLOSED_SEVERAL, "refusal 2, target exited, of several senders") \
+    X(CLOSED_IDLE, "refusal 2, target exited, none active") \
+    X(CLOSED_1, "refusal 1 where a target exited") \
+    X(CLOSED_3, "refusal 2, target exited, where 3 holds too") \
+    X(CLOSED_4, "refusal 2, target exited, where 4 holds too") \
+    X(CLOSED_8, "refusal 2, target exited, where 8 holds too") \
+    X(CLOSED_9, "refusal 2, target exited, where 9 holds too")
+
 #define COVER_PATHS(X) \
     X(REFUSAL_1, "refusal 1") \
     X(REFUSAL_2, "refusal 2") \
@@ -125,7 +169,6 @@
     X(YIELD_COMPANY, "Yield with company") \
     X(EXIT_TO_TASK, "Exit to another task") \
     X(EXIT_TO_IDLE, "Exit to idle") \
-    X(EXIT_SENDERS, "Exit with queued senders") \
     X(SEND_RANGE, "Send -1, tid outside the slots") \
     X(SEND_UNUSED, "Send -1, tid unused") \
     X(SEND_EXITED, "Send -1, tid exited") \
@@ -175,10 +218,12 @@
     X(SHOW_FROM, "shown: value with from") \
     X(SHOW_FAULT, "shown: fault") \
     X(SHOW_IDLE, "shown: no ready task") \
+    DOOR_PATHS(X) \
     CLOCK_PATHS(X)
 
 /* Rules of a table; the mask says for which states of the record at fault a
- * break can be met (bit 0 unused up to bit 7 exited). */
+ * break can be met (bit 0 unused up to bit 7 exited). The two last are asked
+ * last, so that they count images that break no other rule. */
 #define COVER_RULES(X) \
     X(RULE_NO_TASK, 0x01, "no used slot") \
     X(RULE_FIRST_RUN, 0xFE, "used slot after an unused one") \
@@ -215,7 +260,9 @@
     X(RULE_PLACE_GAP, 0x14, "gap before a place") \
     X(RULE_ACTIVE_TWICE, 0x02, "two active tasks") \
     X(RULE_NONE_ACTIVE, 0x04, "none active, one ready") \
-    X(RULE_WAITING_SENDER, 0x08, "sender queued at a waiter")
+    X(RULE_WAITING_SENDER, 0x08, "sender queued at a waiter") \
+    X(RULE_EXITED_BEFORE, 0x10, "target exited, the lower tid") \
+    X(RULE_EXITED_BEHIND, 0x10, "target exited, the higher tid")
 
 #ifdef COVER
 #include "clock.h"
@@ -239,6 +286,16 @@ void cover_program(int argc, char **argv); /* `cover` prints and ends */
 void cover_refused(uint32_t verdict, uint32_t active,
                    const struct request *q);
 bool cover_byte(uint8_t byte, bool is_state); /* true */
+void cover_forget(void);
+void cover_exit(const struct table *k);
+void cover_exited(bool exited, uint32_t next);
+void cover_shown(uint32_t tid);
+void cover_sent(const struct table *k, uint32_t tid, bool taken);
+void cover_received(uint32_t receiver, uint32_t sender);
+void cover_replied(const struct table *k, uint32_t tid, bool taken);
+void cover_targets(const struct table *k);
+void cover_taken(const struct table *k);
+void cover_closed(struct request q);
 void cover_no_sleepers(void);
 void cover_recorded(const struct clock *c, const struct clock_message *m);
 void cover_heard(const struct clock *c, const struct clock_message *m,
@@ -262,6 +319,21 @@ void cover_ticked(const struct clock *c, const struct clock_answers *given);
     ((k)->task[(k)->active].parent == 0 ? PARENT_FIRST \
      : (k)->task[(k)->task[(k)->active].parent].state == STATE_EXITED \
      ? PARENT_EXITED : PARENT_LIVE)
+
+/* Senders whose target exits. What one kernel did is followed from its start,
+ * and forgotten where a table is started or read. */
+#define MARK_FORGET() cover_forget()
+#define MARK_EXIT(k) cover_exit(k)
+#define MARK_EXITED(exited, next) cover_exited(exited, next)
+#define MARK_SHOWN(tid) cover_shown(tid)
+#define MARK_SENT(k, tid, taken) cover_sent(k, tid, taken)
+#define MARK_RECEIVED(receiver, sender) cover_received(receiver, sender)
+#define MARK_REPLIED(k, tid, taken) cover_replied(k, tid, taken)
+#define MARK_TARGETS(k) cover_targets(k)
+#define MARK_TAKEN(k) cover_taken(k)
+#define MARK_CLOSED(q) cover_closed(q)
+#define COVER_CLOSED \
+    (cover_rule == RULE_EXITED_BEFORE || cover_rule == RULE_EXITED_BEHIND)
 
 /* A rule is asked of a record; MARK_RULE counts the one asked last. */
 #define MARK_RECORD(state) ((void)(cover_state = (state)))
@@ -287,6 +359,16 @@ void cover_ticked(const struct clock *c, const struct clock_answers *given);
 #define MARK_MISSING(first, tid, used) ((void)0)
 #define MARK_DELIVERY(first, source, room) ((void)0)
 #define MARK_REFUSED(verdict, active, q) ((void)0)
+#define MARK_FORGET() ((void)0)
+#define MARK_EXIT(k) ((void)0)
+#define MARK_EXITED(exited, next) ((void)0)
+#define MARK_SHOWN(tid) ((void)0)
+#define MARK_SENT(k, tid, taken) ((void)0)
+#define MARK_RECEIVED(receiver, sender) ((void)0)
+#define MARK_REPLIED(k, tid, taken) ((void)0)
+#define MARK_TARGETS(k) ((void)0)
+#define MARK_TAKEN(k) ((void)0)
+#define MARK_CLOSED(q) ((void)0)
 #define MARK_RECORD(state) ((void)0)
 #define MARK_ASK(rule) ((void)0)
 #define MARK_ASK_IF(test, rule) ((void)0)

@@ -16,7 +16,7 @@ static uint64_t mix(uint64_t seed, uint64_t index)
     return draw(&s);
 }
 
-static void put_request(const struct request *q)
+void put_request(const struct request *q)
 {
     uint8_t record[RECORD_BYTES];
     request_write(q, record);
@@ -124,6 +124,9 @@ static void one_case(struct world *run, uint64_t *s)
     world.seed = draw(s);
     world_habits(&world);
     struct request q = world_choose(&world);
+    if (world.table.task[world.table.active].senders.length > 0 &&
+        chance(s, 25))
+        q.kind = KIND_EXIT;
     request_write(&q, c[RECORD_CHUNK].bytes);
     if (roll >= 50)
         image_damage(s, c[IMAGE_CHUNK].bytes);
@@ -132,6 +135,21 @@ static void one_case(struct world *run, uint64_t *s)
             image_damage(s, c[IMAGE_CHUNK].bytes);
     if (roll < 6 || roll >= 96)
         wrong_lengths(s, c);
+    for (int i = 0; i < CHUNKS; i++)
+        put_chunk(&c[i]);
+}
+
+/* Areas that are all different show what was copied though nothing may be. */
+void put_case(const uint8_t *image, uint32_t areas, const struct request *q)
+{
+    static struct chunk c[CHUNKS];
+    uint64_t s = 1;
+    for (int i = 0; i < CHUNKS; i++) {
+        c[i].length = i == AREAS_CHUNK ? areas : right[i];
+        garbage(&s, c[i].bytes, c[i].length);
+    }
+    memcpy(c[IMAGE_CHUNK].bytes, image, IMAGE_BYTES);
+    request_write(q, c[RECORD_CHUNK].bytes);
     for (int i = 0; i < CHUNKS; i++)
         put_chunk(&c[i]);
 }
@@ -166,6 +184,10 @@ int main(int argc, char **argv)
         return starts_fixed();
     if (argc == 2 && strcmp(argv[1], "fixed-clocks") == 0)
         return clocks_fixed();
+    if (argc == 2 && strcmp(argv[1], "fixed-cases") == 0)
+        return doors_cases();
+    if (argc == 3 && strcmp(argv[1], "fixed-run") == 0)
+        return doors_run((uint32_t)strtoul(argv[2], NULL, 10));
     if (argc == 4 && strcmp(argv[1], "one-start") == 0)
         return starts_one((uint32_t)strtoul(argv[2], NULL, 10),
                           (uint32_t)strtoul(argv[3], NULL, 10));
@@ -187,6 +209,8 @@ int main(int argc, char **argv)
           "       generate starts SEED COUNT [INDEX]\n"
           "       generate clock SEED MESSAGES [INDEX]\n"
           "       generate first-run\n"
+          "       generate fixed-run PATTERN\n"
+          "       generate fixed-cases\n"
           "       generate fixed-starts\n"
           "       generate fixed-clocks\n"
           "       generate one-start PRIORITY LENGTH\n", stderr);

@@ -34,10 +34,16 @@ struct world {
     uint64_t seed;
     uint32_t priorities;     /* how new tasks get theirs, 0..2 */
     uint32_t exits;          /* weight of Exit */
+    uint32_t leaves;         /* more of it, while senders are queued */
     uint32_t creates;        /* weight of Create while slots are free */
     uint32_t sends;          /* weight of Send, half of it Receive */
     uint32_t hot;            /* tid that gets most messages */
     bool mortal;             /* may run into a standstill */
+    uint32_t doors;          /* percent of steps at which a door is chosen */
+    uint32_t door;           /* at which the others queue till it exits, or 0 */
+    uint32_t crowd;          /* how many it waits for */
+    uint32_t patience;       /* steps until it is given up */
+    uint32_t least;          /* tasks that doors are to leave */
 };
 
 void world_start(struct world *w, uint64_t seed, uint32_t priority);
@@ -45,6 +51,16 @@ void world_habits(struct world *w);
 bool world_dead(const struct table *k);
 struct request world_choose(struct world *w);  /* any request */
 struct request world_live(struct world *w);    /* one that keeps it going */
+
+/* To standard output: a record, and a case that is whole but for the length of
+ * the areas. */
+void put_request(const struct request *q);
+void put_case(const uint8_t *image, uint32_t areas, const struct request *q);
+
+/* A fixed list of tasks that exit with senders queued, to standard output:
+ * streams, each with priorities of its own, and cases. */
+int doors_run(uint32_t pattern);
+int doors_cases(void);
 
 /* Images for cases: a good one made up whole, and one thing spoiled. */
 void image_invent(uint64_t *seed, uint8_t *image);

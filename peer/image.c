@@ -255,12 +255,32 @@ static bool queues_fit(const struct table *k)
     return true;
 }
 
+/* Nobody waits to be received by a task that has exited. That a target is a
+   used slot was asked before, in waits_for_is_good(), when not every state was
+   known yet. */
+static bool targets_exist(const struct table *k)
+{
+    MARK_TARGETS(k);
+    for (uint32_t tid = 1; tid <= k->used; tid++) {
+        const struct task *t = &k->task[tid];
+
+        if (t->state != STATE_RECEIVE_BLOCKED)
+            continue;
+        MARK_RECORD(t->state);
+        MARK_ASK(t->waits_for < tid ? RULE_EXITED_BEFORE : RULE_EXITED_BEHIND);
+        if (k->task[t->waits_for].state == STATE_EXITED)
+            return false;
+    }
+    return true;
+}
+
 bool table_read(struct table *k, const uint8_t *image)
 {
+    MARK_FORGET();
     *k = (struct table){ 0 };
     k->used = used_read(image);
     if (k->used > 0 && tasks_read(k, image) && queues_read(k, image)
-        && queues_fit(k))
+        && queues_fit(k) && targets_exist(k))
         return true;
     *k = (struct table){ 0 };
     return false;
@@ -361,15 +381,18 @@ uint32_t peer_step(uint8_t *image, uint64_t image_len,
     } else if (areas_len != AREAS_BYTES) {
         MARK(REFUSAL_1);
         MARK_IF(!table_read(&k, image), ORDER_1_2);
+        MARK_IF(!table_read(&k, image) && COVER_CLOSED, CLOSED_1);
         a.verdict = REFUSED_AREAS;
     } else if (!table_read(&k, image)) {
         MARK(REFUSAL_2);
         MARK_RULE();
+        MARK_CLOSED(request_read(record));
         MARK_IF(get32(record) - 1 >= KIND_OWN_WRITE, ORDER_2_3);
         a.verdict = REFUSED_TABLE;
     } else {
         struct request q = request_read(record);
 
+        MARK_TAKEN(&k);
         a = table_step(&k, areas, &q);
         if (a.verdict == 0)
             table_write(&k, image);

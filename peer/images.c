@@ -54,23 +54,35 @@ static void put_result(uint64_t *s, uint8_t *b, uint32_t n)
         put4(b + 16, -1 - (int32_t)below(s, 3));
 }
 
-/* A target other than itself that does not wait for a sender, else 0. */
-static uint8_t free_target(uint64_t *s, uint8_t *image, uint32_t n, uint32_t i)
+/* One slot may be a door, at which the given share of the tasks is queued. */
+struct crowd {
+    uint32_t door, share;
+};
+
+/* A target other than itself that exists and does not wait for a sender, else
+ * 0. Then no other slot is receive-blocked either, so that this one can become
+ * exited and is nobody's target. */
+static uint8_t free_target(uint64_t *s, uint8_t *image, uint32_t n, uint32_t i,
+                           const struct crowd *c)
 {
     uint32_t start = chance(s, 50) ? 0 : below(s, n);
+    if (c->door < n && chance(s, c->share))
+        start = c->door;
     for (uint32_t j = 0; j < n; j++) {
         uint32_t t = (start + j) % n;
-        if (t != i && slot(image, t)[0] != STATE_SEND_BLOCKED)
+        uint8_t state = slot(image, t)[0];
+        if (t != i && state != STATE_SEND_BLOCKED && state != STATE_EXITED)
             return (uint8_t)(t + 1);
     }
     return 0;
 }
 
 static void put_fields(uint64_t *s, uint8_t *image, uint32_t n, uint32_t i,
-                       uint8_t *events)
+                       const struct crowd *c, uint8_t *events)
 {
     uint8_t *b = slot(image, i);
-    if (b[0] == STATE_RECEIVE_BLOCKED && !(b[4] = free_target(s, image, n, i)))
+    if (b[0] == STATE_RECEIVE_BLOCKED &&
+        !(b[4] = free_target(s, image, n, i, c)))
         b[0] = STATE_EXITED;
     if (b[0] == STATE_SEND_BLOCKED || b[0] == STATE_RECEIVE_BLOCKED)
         put_room(s, b + 6);
@@ -104,26 +116,52 @@ static void put_places(uint64_t *s, uint8_t *image, uint32_t n)
     }
 }
 
+/* The door is mostly the task that could exit now. */
+static struct crowd some_crowd(uint64_t *s, uint32_t n, uint32_t active)
+{
+    struct crowd c = {TASKS, 0};
+    uint32_t other = below(s, n), style = below(s, 3);
+    if (!chance(s, 12))
+        return c;
+    c.door = active < n && chance(s, 70) ? active : other;
+    c.share = style == 0 ? 50 : style == 1 ? 85 : 100;
+    return c;
+}
+
+static uint8_t some_state(uint64_t *s, uint32_t i, const struct crowd *c,
+                          bool busy)
+{
+    uint8_t state = (uint8_t)(STATE_READY + below(s, 6));
+    if (state == STATE_READY && !busy)
+        state = STATE_EXITED;
+    if (i == c->door && (state == STATE_SEND_BLOCKED || state == STATE_EXITED))
+        state = chance(s, 50) ? STATE_REPLY_BLOCKED : STATE_EVENT_BLOCKED;
+    if (i != c->door && chance(s, c->share))
+        state = STATE_RECEIVE_BLOCKED;
+    return state;
+}
+
 void image_invent(uint64_t *s, uint8_t *image)
 {
     uint8_t events[EVENTS] = {0};
     uint32_t n = chance(s, 15) ? TASKS : 1 + below(s, TASKS);
     bool busy = chance(s, 80);
     uint32_t active = busy ? below(s, n) : TASKS;
-    uint32_t spread = chance(s, 50) ? 3 : PRIORITIES;
+    uint32_t spread = below(s, 3);
+    struct crowd crowd = some_crowd(s, n, active);
+    spread = spread == 0 ? 1 : spread == 1 ? 3 : PRIORITIES;
     memset(image, 0, IMAGE_BYTES);
     for (uint32_t i = 0; i < n; i++) {
         uint8_t *b = slot(image, i);
-        b[0] = (uint8_t)(STATE_READY + below(s, 6));
+        b[0] = some_state(s, i, &crowd, busy);
         if (i == active)
             b[0] = STATE_ACTIVE;
-        else if (b[0] == STATE_READY && !busy)
-            b[0] = STATE_EXITED;
-        b[1] = (uint8_t)(below(s, spread) * (PRIORITIES / spread));
+        b[1] = (uint8_t)(spread == 1 ? 16
+                         : below(s, spread) * (PRIORITIES / spread));
         b[2] = (uint8_t)(i == 0 ? 0 : 1 + below(s, i));
     }
     for (uint32_t i = 0; i < n; i++)
-        put_fields(s, image, n, i, events);
+        put_fields(s, image, n, i, &crowd, events);
     put_places(s, image, n);
 }
 
@@ -160,6 +198,22 @@ static void remake(uint8_t *b, enum state state)
 {
     memset(b + 3, 0, SLOT_BYTES - 3);
     b[0] = (uint8_t)state;
+}
+
+static bool in_one_queue(const uint8_t *a, const uint8_t *b)
+{
+    return a[0] == b[0] && ((a[0] == STATE_READY && a[1] == b[1]) ||
+                            (a[0] == STATE_RECEIVE_BLOCKED && a[4] == b[4]));
+}
+
+/* Those behind move up. */
+static void leave_queue(uint8_t *image, const uint8_t *b)
+{
+    for (uint32_t i = 0; i < TASKS; i++) {
+        uint8_t *other = slot(image, i);
+        if (in_one_queue(other, b) && other[3] > b[3])
+            other[3]--;
+    }
 }
 
 static void set_result(uint8_t *b, uint8_t kind, int32_t number, uint32_t from)
@@ -248,6 +302,10 @@ static void damage_name(uint64_t *s, uint8_t *image)
     uint8_t *other = find(s, image, IS_EVENT);
     if (!b)
         return;
+    if (i >= 2 && i < 5 && chance(s, 70)) {
+        leave_queue(image, b);   /* so that its target alone is wrong */
+        b[3] = 0;
+    }
     if (i < 2)
         bad_room(s, b + (i == 0 ? 6 : 10));
     else if (i == 2)
@@ -319,6 +377,74 @@ static void damage_whole(uint64_t *s, uint8_t *image)
     }
 }
 
+/* ---- damage: senders at a task that exited, and nothing else wrong ---- */
+
+static uint8_t senders_at(uint8_t *image, uint8_t tid)
+{
+    uint8_t count = 0;
+    for (uint32_t i = 0; i < TASKS; i++)
+        count += slot(image, i)[0] == STATE_RECEIVE_BLOCKED &&
+                 slot(image, i)[4] == tid;
+    return count;
+}
+
+/* A task exits and leaves its senders queued; if it was the active one,
+ * another goes on. */
+static void exit_in_place(uint64_t *s, uint8_t *image, uint8_t *b)
+{
+    uint8_t *next = find(s, image, IS_READY);
+    bool was_active = b[0] == STATE_ACTIVE;
+    leave_queue(image, b);
+    remake(b, STATE_EXITED);
+    if (was_active && next) {
+        leave_queue(image, next);
+        remake(next, STATE_ACTIVE);
+    }
+}
+
+/* Some blocked task now stands last in the queue of this one. */
+static void queue_up(uint64_t *s, uint8_t *image, const uint8_t *target)
+{
+    uint8_t tid = (uint8_t)((target - image) / SLOT_BYTES + 1);
+    uint8_t *b = find(s, image, IS_WAITING | IS_SENDING | IS_REPLY | IS_EVENT);
+    if (!b || b == target)
+        return;
+    leave_queue(image, b);
+    remake(b, STATE_RECEIVE_BLOCKED);
+    b[3] = senders_at(image, tid);
+    b[4] = tid;
+    put_room(s, b + 6);
+    put_room(s, b + 10);
+}
+
+/* Somebody who exited, or now does; at times the first task or the last. */
+static uint8_t *some_exited(uint64_t *s, uint8_t *image)
+{
+    uint32_t n = used(image);
+    uint8_t *b = find(s, image, IS_EXITED);
+    if (n > 0 && chance(s, 25))
+        b = slot(image, chance(s, 50) ? 0 : n - 1);
+    if (!b)
+        b = find(s, image, IS_WAITING | IS_REPLY | IS_EVENT);
+    if (b && b[0] != STATE_EXITED)
+        exit_in_place(s, image, b);
+    return b;
+}
+
+static void damage_target(uint64_t *s, uint8_t *image)
+{
+    uint8_t *b = find(s, image, IS_SENDING), *gone;
+    uint32_t more = chance(s, 60) ? 1 : 1 + below(s, 5);
+    if (chance(s, 40)) {
+        if (b && b[4] >= 1 && b[4] <= TASKS)
+            exit_in_place(s, image, slot(image, b[4] - 1u));
+        return;
+    }
+    gone = some_exited(s, image);
+    for (; gone && more > 0; more--)
+        queue_up(s, image, gone);
+}
+
 static void damage_rough(uint64_t *s, uint8_t *image)
 {
     uint32_t i = below(s, TASKS), j = below(s, TASKS), style = below(s, 20);
@@ -352,6 +478,6 @@ void image_damage(uint64_t *s, uint8_t *image)
     static void (*const damage[])(uint64_t *, uint8_t *) = {
         damage_field, damage_field, damage_field, damage_result,
         damage_result, damage_parent, damage_name, damage_place,
-        damage_whole, damage_rough};
+        damage_whole, damage_target, damage_rough};
     damage[below(s, sizeof damage / sizeof damage[0])](s, image);
 }

@@ -113,6 +113,19 @@ static void create(struct table *k, const struct request *q)
     }
 }
 
+/* Nobody is left to receive what is queued here, so each sender is let go with
+   a fault, the first one first. A task whose message was received already
+   stands in no queue and stays as it is: anyone may still reply to it. */
+static void exit_task(struct table *k)
+{
+    struct task *caller = &k->task[k->active];
+
+    MARK_EXIT(k);
+    caller->state = STATE_EXITED;
+    while (caller->senders.length != 0)
+        make_ready(k, take_head(k, &caller->senders), fault(-2));
+}
+
 static void send_message(struct table *k, uint8_t *areas,
                          const struct request *q)
 {
@@ -121,6 +134,7 @@ static void send_message(struct table *k, uint8_t *areas,
 
     if (!task_exists(k, q->arg[0])) {
         MARK_MISSING(SEND_RANGE, tid, k->used);
+        MARK_SENT(k, tid, false);
         MARK_IF(!buffer_is_good(q->arg[1], q->arg[2]), SEND_GONE_MESSAGE);
         MARK_IF(!buffer_is_good(q->arg[3], q->arg[4]), SEND_GONE_REPLY);
         caller->result = fault(-1);
@@ -140,11 +154,13 @@ static void send_message(struct table *k, uint8_t *areas,
         caller->result = fault(-3);
         return;
     }
+    MARK_SENT(k, tid, true);
     target = &k->task[tid];
     caller->message = buffer_of(q->arg[1], q->arg[2]);
     caller->reply = buffer_of(q->arg[3], q->arg[4]);
     if (target->state == STATE_SEND_BLOCKED) {
         MARK_DELIVERY(SEND_WAITING, caller->message, target->message);
+        MARK_RECEIVED(tid, k->active);
         deliver(areas, k->active, caller->message, tid, target->message);
         caller->state = STATE_REPLY_BLOCKED;
         make_ready(k, tid, received(caller->message.length, k->active));
@@ -176,6 +192,7 @@ static void receive_message(struct table *k, uint8_t *areas,
     tid = take_head(k, &caller->senders);
     sender = &k->task[tid];
     MARK_DELIVERY(RECEIVE_QUEUE, sender->message, caller->message);
+    MARK_RECEIVED(k->active, tid);
     deliver(areas, tid, sender->message, k->active, caller->message);
     sender->state = STATE_REPLY_BLOCKED;
     caller->result = received(sender->message.length, tid);
@@ -196,6 +213,7 @@ static void reply_message(struct table *k, uint8_t *areas,
     }
     if (k->task[tid].state != STATE_REPLY_BLOCKED) {
         MARK(tid == k->active ? REPLY_SELF : REPLY_STATE);
+        MARK_REPLIED(k, tid, false);
         MARK_IF(!buffer_is_good(q->arg[1], q->arg[2]), REPLY_STATE_BUFFER);
         caller->result = fault(-2);
         return;
@@ -210,6 +228,7 @@ static void reply_message(struct table *k, uint8_t *areas,
     copied = deliver(areas, k->active, reply, tid, k->task[tid].reply);
     MARK_DELIVERY(REPLY_WHOLE, reply, k->task[tid].reply);
     MARK_IF(k->task[tid].priority == caller->priority, REPLY_EQUAL);
+    MARK_REPLIED(k, tid, true);
     make_ready(k, tid, value(reply.length));
     caller->result = value(copied);
 }
@@ -256,13 +275,12 @@ static void serve(struct table *k, uint8_t *areas, const struct request *q)
     MARK_IF(q->kind == KIND_MY_TID, TID);
     MARK_IF(q->kind == KIND_MY_PARENT_TID, COVER_PARENT(k));
     MARK_IF(q->kind == KIND_YIELD, YIELD_ALONE + COVER_COMPANY(k));
-    MARK_IF(q->kind == KIND_EXIT && caller->senders.length > 0, EXIT_SENDERS);
     switch (q->kind) {
     case KIND_CREATE:        create(k, q); break;
     case KIND_MY_TID:        caller->result = value(k->active); break;
     case KIND_MY_PARENT_TID: caller->result = value(caller->parent); break;
     case KIND_YIELD:         caller->result = value(0); break;
-    case KIND_EXIT:          caller->state = STATE_EXITED; break;
+    case KIND_EXIT:          exit_task(k); break;
     case KIND_SEND:          send_message(k, areas, q); break;
     case KIND_RECEIVE:       receive_message(k, areas, q); break;
     case KIND_REPLY:         reply_message(k, areas, q); break;
@@ -292,12 +310,13 @@ static struct answer schedule(struct table *k)
             MARK_IF(a.result.kind == RESULT_NOTHING, SHOW_NOTHING);
             MARK_IF(a.result.kind == RESULT_VALUE, SHOW_VALUE + !!a.result.from);
             MARK_IF(a.result.kind == RESULT_FAULT, SHOW_FAULT);
+            MARK_SHOWN(a.next);
             t->result = nothing; /* shown once only */
             break;
         }
     }
     MARK_IF(a.next == 0, SHOW_IDLE);
-    MARK_IF(caller->state == STATE_EXITED, EXIT_TO_TASK + !a.next);
+    MARK_EXITED(caller->state == STATE_EXITED, a.next);
     return a;
 }
 
@@ -321,6 +340,7 @@ static uint32_t refusal_of(const struct table *k, const struct request *q)
 uint32_t table_start(struct table *k, uint32_t priority)
 {
     *k = (struct table){ 0 };
+    MARK_FORGET();
     MARK_IF(priority >= PRIORITIES, START_6);
     if (priority >= PRIORITIES)
         return REFUSED_PRIORITY;

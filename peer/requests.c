@@ -28,6 +28,9 @@ void world_habits(struct world *w)
     uint64_t *s = &w->seed;
     w->priorities = below(s, 3);
     w->exits = (uint32_t)PICK(s, 0, 0, 1, 1, 4);
+    w->leaves = (uint32_t)PICK(s, 0, 0, 2, 20);
+    w->doors = (uint32_t)PICK(s, 0, 0, 1, 3, 30);
+    w->least = (uint32_t)PICK(s, 4, 10, 18);
     w->creates = (uint32_t)PICK(s, 4, 12, 30);
     w->sends = (uint32_t)PICK(s, 5, 12, 25);
     w->hot = 1 + below(s, 4);
@@ -59,7 +62,32 @@ static bool is(const struct table *k, uint32_t tid, enum state state)
     return k->task[tid].state == state;
 }
 
-/* Tasks that can never go on: queued at one that exited, or in a ring. */
+static bool exists(const struct table *k, uint32_t tid)
+{
+    return !is(k, tid, STATE_UNUSED) && !is(k, tid, STATE_EXITED);
+}
+
+static uint32_t living(const struct table *k)
+{
+    uint32_t count = 0;
+    for (uint32_t tid = 1; tid <= k->used; tid++)
+        count += exists(k, tid);
+    return count;
+}
+
+/* The tid of a task that exists, else 0. */
+static uint32_t some_living(struct world *w)
+{
+    uint32_t start = below(&w->seed, w->table.used);
+    for (uint32_t i = 0; i < w->table.used; i++) {
+        uint32_t tid = 1 + (start + i) % w->table.used;
+        if (exists(&w->table, tid))
+            return tid;
+    }
+    return 0;
+}
+
+/* Tasks that can never go on: queued in a ring, or behind one. */
 static uint32_t stuck(const struct table *k)
 {
     uint32_t count = 0;
@@ -68,8 +96,7 @@ static uint32_t stuck(const struct table *k)
         for (int hops = 0; hops < TASKS && is(k, t, STATE_RECEIVE_BLOCKED);
              hops++)
             t = k->task[t].waits_for;
-        count += t != tid && (is(k, t, STATE_RECEIVE_BLOCKED) ||
-                              is(k, t, STATE_EXITED));
+        count += is(k, t, STATE_RECEIVE_BLOCKED);
     }
     return count;
 }
@@ -120,8 +147,8 @@ static void room(struct world *w, int32_t *arg)
         good_room(w, arg, arg + 1);
 }
 
-/* Would a Send to this task wait for the caller itself? */
-static bool closes_ring(const struct table *k, uint32_t t)
+/* Would a Send to this task wait for the caller itself, or for nobody? */
+static bool in_vain(const struct table *k, uint32_t t)
 {
     for (int hops = 0; hops < TASKS && is(k, t, STATE_RECEIVE_BLOCKED);
          hops++) {
@@ -129,7 +156,7 @@ static bool closes_ring(const struct table *k, uint32_t t)
         if (t == k->active)
             return true;
     }
-    return is(k, t, STATE_RECEIVE_BLOCKED) || is(k, t, STATE_EXITED);
+    return is(k, t, STATE_RECEIVE_BLOCKED) || !exists(k, t);
 }
 
 static int32_t send_target(struct world *w)
@@ -144,14 +171,17 @@ static int32_t send_target(struct world *w)
         return (int32_t)t;
     if (style < 40 && (t = some_task(w, STATE_SEND_BLOCKED)))
         return (int32_t)t;
+    if (w->hot <= k->used && !exists(k, w->hot))
+        w->hot = some_living(w);
     if (style < 70 && w->hot <= k->used && w->hot != k->active &&
-        !closes_ring(k, w->hot))
+        !in_vain(k, w->hot))
         return (int32_t)w->hot;
-    t = 1 + below(s, k->used);
-    for (int tries = 0; tries < 8 && (t == k->active || closes_ring(k, t));
-         tries++)
-        t = 1 + below(s, k->used);
-    return (int32_t)t;
+    for (int tries = 0; tries < 8; tries++) {
+        t = some_living(w);
+        if (t != k->active && !in_vain(k, t))
+            return (int32_t)t;
+    }
+    return 1 + (int32_t)below(s, k->used);
 }
 
 static int32_t reply_target(struct world *w)
@@ -234,15 +264,17 @@ static void fill(struct world *w, struct request *q)
 static int32_t busy_kind(struct world *w)
 {
     uint32_t weight[12] = {0, 2, 3, 4, 6, 0, 0, 0, 4, 5, 12, 6};
+    uint32_t senders = w->table.task[w->table.active].senders.length;
     uint32_t sum = 0;
     if (w->table.used < TASKS)
         weight[KIND_CREATE] = w->creates;
     weight[KIND_EXIT] = w->exits;
+    if (senders > 0 && living(&w->table) > w->least)
+        weight[KIND_EXIT] += w->leaves;
     if (some_task(w, STATE_REPLY_BLOCKED))
         weight[KIND_REPLY] = 24;
     weight[KIND_SEND] = w->sends;
-    weight[KIND_RECEIVE] = w->table.task[w->table.active].senders.length > 0
-                               ? 40 : 1 + w->sends / 2;
+    weight[KIND_RECEIVE] = senders > 0 ? 40 : 1 + w->sends / 2;
     for (int i = KIND_CREATE; i <= KIND_OWN_WRITE; i++)
         sum += weight[i];
     uint32_t at = below(&w->seed, sum);
@@ -299,21 +331,71 @@ struct request world_choose(struct world *w)
     return q;
 }
 
+/* ---- doors ---- */
+
+/* A task exits once, and left to chance mostly while nobody is queued at it. So
+ * now and then one is chosen to be a door: the others are made to queue there,
+ * and when enough of them do it exits. */
+static void mind_door(struct world *w)
+{
+    uint64_t *s = &w->seed;
+    if (w->door && (w->patience-- == 0 || !exists(&w->table, w->door)))
+        w->door = 0;
+    if (w->door || !chance(s, w->doors) || living(&w->table) <= w->least)
+        return;
+    w->door = some_living(w);
+    w->crowd = 1 + below(s, (uint32_t)PICK(s, 1, 3, 8, TASKS - 1));
+    w->patience = 20 + below(s, 150);
+}
+
+static bool has_ready(const struct table *k)
+{
+    for (int p = 0; p < PRIORITIES; p++)
+        if (k->ready[p].length > 0)
+            return true;
+    return false;
+}
+
+/* The door lets the others run until enough of them are queued. It waits in
+ * several states meanwhile, and may receive some of them, who then stay. */
+static int32_t door_kind(struct world *w)
+{
+    uint32_t senders = w->table.task[w->door].senders.length;
+    if (senders >= w->crowd || (senders > 0 && !has_ready(&w->table)))
+        return KIND_EXIT;
+    if (senders > 0 && chance(&w->seed, 20))
+        return KIND_RECEIVE;
+    return PICK(&w->seed, KIND_YIELD, KIND_YIELD, KIND_AWAIT_EVENT,
+                KIND_AWAIT_EVENT, KIND_SEND, KIND_CREATE);
+}
+
+static struct request planned(struct world *w)
+{
+    struct request q = world_choose(w);
+    mind_door(w);
+    if (!w->door || !w->table.active || chance(&w->seed, 15))
+        return q;
+    q.kind = w->door == w->table.active ? door_kind(w) : KIND_SEND;
+    fill(w, &q);
+    if (w->door != w->table.active)
+        q.arg[0] = (int32_t)w->door;
+    return q;
+}
+
 /* Tries a request on a copy, and looks for another if all would stand still,
  * or, mostly, if it would leave one more task stuck. */
 struct request world_live(struct world *w)
 {
     static struct table copy;
     static uint8_t areas[AREAS_BYTES];
-    struct request q = world_choose(w);
+    struct request q = planned(w);
     if (w->mortal || world_dead(&w->table))
         return q;
     for (int tries = 0; tries < 50; tries++) {
         copy = w->table;
         table_step(&copy, areas, &q);
         if (!world_dead(&copy) &&
-            (stuck(&copy) <= stuck(&w->table) ||
-             chance(&w->seed, q.kind == KIND_EXIT ? 25 : 3)))
+            (stuck(&copy) <= stuck(&w->table) || chance(&w->seed, 3)))
             break;
         q = world_choose(w);
     }

@@ -2,7 +2,7 @@
 use Prim.Native.Nat.{ℕ, _*_, _≤_, _<_}
 use mathlib.Core.Path.{_≡_, sym, ap, _∙_, subst}
 use mathlib.Core.Logic.{_≢_, ⊎-elim}
-use mathlib.Core.Bool.{true, _&&_}
+use mathlib.Core.Bool.{true, _&&_, false≢true}
 use mathlib.Core.List.{List}
 use native.Mathlib.Omega.{arith}
 use native.Mathlib.Decide.{decLt}
@@ -32,7 +32,7 @@ use Rattle.image.proofs.Rebuilt.{Bytes}
 use Rattle.image.proofs.Shape.{table-shaped}
 use Rattle.audit.specs.Survey.{queueIn, usedIn, activeUpTo, countUpTo}
 use Rattle.audit.specs.Sound.{recordSound}
-use Rattle.audit.specs.Audit.{asked}
+use Rattle.audit.specs.Audit.{quietCode, asked}
 use Rattle.audit.proofs.SoundRecord.{sound-record}
 use Rattle.audit.proofs.Counts.{Last, active-last}
 use Rattle.audit.proofs.Ranks.{Filled, row-many, rows-fit, fit-rows}
@@ -151,8 +151,9 @@ module _ (n : ℕ) (b : List ℕ) (whole : length b ≡ n * recordLength) (small
             holds = subst (λ (key : ℕ → ℕ). RowsFacts n (t .queues) key) (sym (keys-are n b whole)) rows;
           };
           quiet = λ s h e.
-              let three : byteAt b s atState ≡ 3 = sym (fine-code s h) ∙ eqb-true _ 3 e in
-              row-many (filled fine-rest) rows (sendQueue s) (omega arith) ∙ f .each s (fine-within s h (λ z. omega arith)) .quiet three;
+              let quiet : quietCode (byteAt b s atState) ≡ true = rw (fine-code s h) at e in
+              let some : byteAt b s atState ≢ 0 = λ z. false≢true (rw z at quiet) in
+              row-many (filled fine-rest) rows (sendQueue s) (omega arith) ∙ f .each s (fine-within s h some) .quiet quiet;
           single = single;
         })
         (last .most)
@@ -229,7 +230,7 @@ module _ (n : ℕ) (b : List ℕ) (whole : length b ≡ n * recordLength) (small
               let h : s < n = omega (arith, first .most) in
               record {
                 alone = λ one. rules .tasks .only-active s h (eq-eqb _ 1 (code s h ∙ one));
-                quiet = λ three. image-counted (sendQueue s) (omega arith) ∙ rules .quiet s h (eq-eqb _ 3 (code s h ∙ three));
+                quiet = λ is. image-counted (sendQueue s) (omega arith) ∙ rules .quiet s h (rw (code s h) is);
                 sound = sound-is s l ∙ true-both (exact s h) (facts-used used s (taskAt t s) (rules .tasks .each s l));
                 fit = rows-fit (filled rest) holds s h;
               };

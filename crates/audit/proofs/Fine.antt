@@ -17,14 +17,14 @@ use Rattle.image.specs.Bytes.{recordAt}
 use Rattle.image.specs.Record.{recordLength, atState, atPlace, byteAt}
 use Rattle.audit.specs.Survey.{queueIn}
 use Rattle.audit.specs.Sound.{recordSound}
-use Rattle.audit.specs.Audit.{restBlank, judgedAt, slotAsked, asked}
+use Rattle.audit.specs.Audit.{restBlank, quietCode, judgedAt, slotAsked, asked}
 use Rattle.audit.proofs.Ranks.{Fit, ranked-fit, fit-ranked}
 
 module _ (n : ℕ) (b : List ℕ) (used active : ℕ) (count : List ℕ) where
   -- what is asked of the record of a used slot
   pub record Judged (s : ℕ) : Type 0 where
     pub alone : byteAt b s atState ≡ 1 → s ≡ active
-    pub quiet : byteAt b s atState ≡ 3 → getD count (sendQueue s) 0 ≡ 0
+    pub quiet : quietCode (byteAt b s atState) ≡ true → getD count (sendQueue s) 0 ≡ 0
     pub sound : recordSound used s (recordAt recordLength b s) ≡ true
     pub fit : queueIn n b s < queuesFor n → Fit (λ k. getD count k 0) (queueIn n b) (λ i. byteAt b i atPlace) s
 
@@ -61,7 +61,7 @@ module _ (n : ℕ) (b : List ℕ) (used active : ℕ) (count : List ℕ) where
     alone-test = not (eqb code 1) || eqb s active
 
     abbrev quiet-test : Bool
-    quiet-test = not (eqb code 3) || eqb (getD count (sendQueue s) 0) 0
+    quiet-test = not (quietCode code) || eqb (getD count (sendQueue s) 0) 0
 
     abbrev many : ℕ → ℕ
     many k = getD count k 0
@@ -73,7 +73,7 @@ module _ (n : ℕ) (b : List ℕ) (used active : ℕ) (count : List ℕ) where
         let (alone, quiet) = both-true alone-test quiet-test two in
         record {
           alone = λ one. eqb-true s active (implied (eqb code 1) _ alone (eq-eqb code 1 one));
-          quiet = λ three. eqb-true _ 0 (implied (eqb code 3) _ quiet (eq-eqb code 3 three));
+          quiet = λ is. eqb-true _ 0 (implied (quietCode code) _ quiet is);
           sound = sound;
           fit = ranked-fit (queuesFor n) many (queueIn n b) (λ i. byteAt b i atPlace) s rank;
         }
@@ -84,7 +84,7 @@ module _ (n : ℕ) (b : List ℕ) (used active : ℕ) (count : List ℕ) where
         (true-both
         (true-both
         (implies (eqb code 1) _ (λ one. eq-eqb s active (f .alone (eqb-true code 1 one))))
-        (implies (eqb code 3) _ (λ three. eq-eqb (getD count (sendQueue s) 0) 0 (f .quiet (eqb-true code 3 three)))))
+        (implies (quietCode code) _ (λ is. eq-eqb (getD count (sendQueue s) 0) 0 (f .quiet is))))
         (f .sound))
         (fit-ranked (queuesFor n) many (queueIn n b) (λ i. byteAt b i atPlace) s (f .fit))
 

@@ -24,11 +24,15 @@ ranked m many key place s =
     leb m (key s)
     || (ltb (place s) (many (key s)) && allBelow s (λ i. not (eqb (key i) (key s) && eqb (place i) (place s))))
 
--- a sound record, of the active slot if it is active, with no queued sender if it is send-blocked
+-- the numbers of the states at which no sender is queued: send-blocked, exited
+abbrev pub quietCode : ℕ → Bool
+quietCode code = eqb code 3 || eqb code 7
+
+-- a sound record, of the active slot if it is active, with no queued sender if it is send-blocked or has exited
 abbrev pub judgedAt : List ℕ → ℕ → ℕ → ℕ → ℕ → Bool
 judgedAt b used active senders s =
     (not (eqb (byteAt b s atState) 1) || eqb s active)
-    && (not (eqb (byteAt b s atState) 3) || eqb senders 0)
+    && (not (quietCode (byteAt b s atState)) || eqb senders 0)
     && recordSound used s (recordAt recordLength b s)
 
 -- what is asked of the record of a used slot, given how many stand in each queue

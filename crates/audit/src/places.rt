@@ -16,10 +16,11 @@ use queue::numbering::FIRST_SEND;
 use queue::numbering::QUEUES;
 use queue::wide;
 use task::parts::ACTIVE;
+use task::parts::EXITED;
 use task::parts::SEND_BLOCKED;
 use tid::sizes::SLOTS;
 
-// A record that is sound, the active slot if it is active, and without a queued sender if it is send-blocked.
+// A record that is sound, the active slot if it is active, and without a queued sender if it is send-blocked or has exited.
 fn judged(image: &[u8], s: usize, used: usize, active: usize, senders: u8) -> bool
     requires { ⌜ (s < slotCount) × (length (now image) ≡ slotCount * recordLength) ⌝ }
     ensures { λ r. ⌜ r ≡ judgedAt (now (image .entry)) used active senders s ⌝ }
@@ -31,7 +32,7 @@ fn judged(image: &[u8], s: usize, used: usize, active: usize, senders: u8) -> bo
             return false;
         }
     }
-    if code == SEND_BLOCKED {
+    if (code == SEND_BLOCKED) | (code == EXITED) {
         if senders != 0 {
             return false;
         }

@@ -32,7 +32,7 @@ use Rattle.clock_laws.specs.Example.{makes, made, asksTime, shown, TimeI
 -- named on an `unfolding` line, it opens all that a step computes with
 unfoldable everyStep : Unit {0}
 unfolding made decide decideAt refusalOf turnOf ownWrite settled everyKind everyMove firstReady activated dispatched activeSlot usedSlots firstFrom
-    pushedRow poppedRow allBelow rowStands rowsKept queueOf Good.goodTasks Good.goodActive Good.goodQueues Good.goodReceivers Good.goodEvents
+    pushedRow poppedRow allBelow rowStands rowsKept queueOf Good.goodTasks Good.goodActive Good.goodQueues Good.goodReceivers Good.goodTargets Good.goodEvents
     Good.goodTable step
 everyStep = tt
 

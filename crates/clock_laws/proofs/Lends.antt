@@ -26,7 +26,7 @@ use Rattle.kernel.specs.Kinds.{alive, myParentTid, send, awaitEvent, event}
 use Rattle.kernel.specs.Decide.{activeTid, buffer, turnOf, ownWrite}
 use Rattle.step.specs.Step.{step}
 use Rattle.laws.specs.Parties.{Parties, parties}
-use Rattle.laws.specs.View.{isEntry, isSentTo, isReceivedFrom, isRepliedTo, isSignalled, othersLeft}
+use Rattle.laws.specs.View.{isEntry, isSentTo, isReceivedFrom, isRepliedTo, isSignalled, isTurnedAway, othersLeft}
 use Rattle.laws.proofs.Areas.{InBuffer}
 use Rattle.laws.proofs.Concerns.{Sent}
 use Rattle.laws.proofs.Effects.{step-cases, entry-effect}
@@ -122,7 +122,8 @@ module _ {offset : ℕ} where
       chosen Is (isSentTo t r s) (λ _. ready-lends)
       (λ _. chosen Is (isReceivedFrom t r s) (λ _. record { used = omega arith; closed = λ e. omega arith; behind = old .behind })
       (λ _. chosen Is (isRepliedTo t r s) (λ _. ready-lends)
-      (λ _. chosen Is (isSignalled t r s) (λ _. ready-lends) (λ _. old))))
+      (λ _. chosen Is (isSignalled t r s) (λ _. ready-lends)
+      (λ _. chosen Is (isTurnedAway t r s) (λ _. ready-lends) (λ _. old)))))
 
 -- WHERE A STEP WRITES
 

@@ -2,6 +2,9 @@
 use entry::kernel_step;
 use image::call::ANSWER;
 use image::call::REQUEST;
+use image::fields::AWAITED;
+use image::fields::PLACE;
+use image::fields::RECORD;
 use image::stored::IMAGE;
 use image::stored::read;
 use kernel::numbers::EVENT;
@@ -72,15 +75,27 @@ fn write_cut(name: &[u8], long: [u8; IMAGE + 1], len: usize) {
     write_first(name, &mut image, len);
 }
 
+// The image with tid 11, which stands behind tid 10 in the queue of tid 7, first and alone in the queue of another.
+fn sent_to(image: [u8; IMAGE], target: u8) -> [u8; IMAGE] {
+    let mut other = image;
+    other[10 * RECORD + PLACE] = 0;
+    other[10 * RECORD + AWAITED] = target;
+    other
+}
+
 pub(crate) fn write_wholes(image: [u8; IMAGE]) {
     let long = longer(image);
     let mut zeros = [0u8; IMAGE];
     let mut noise = random();
     let mut unbroken = image;
+    let mut at_another = sent_to(image, 12);
+    let mut at_exited = sent_to(image, 5);
     write_cut(b"no byte", long, 0);
     write_cut(b"639 bytes", long, IMAGE - 1);
     write_cut(b"641 bytes", long, IMAGE + 1);
     write_whole(b"all zero", &mut zeros);
     write_whole(b"random bytes", &mut noise);
     write_whole(b"the unbroken image", &mut unbroken);
+    write_whole(b"a sender at tid 12, which exists", &mut at_another);
+    write_whole(b"a sender at tid 5, which has exited", &mut at_exited);
 }

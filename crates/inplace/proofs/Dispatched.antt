@@ -1,7 +1,6 @@
 -- The end of every entry, on the bytes: whoever stands at the head of the first ready queue runs next.
 use Prim.Native.Nat.{ℕ, _≤_, _<_}
 use mathlib.Core.Path.{_≡_, refl, sym, ap, _∙_}
-use mathlib.Core.Bool.{Bool}
 use mathlib.Core.List.{List}
 use native.Mathlib.Omega.{arith}
 use lib.ListN.{getD}
@@ -12,7 +11,7 @@ use Rattle.tid.specs.Tid.{slotOf, tidOf}
 use Rattle.queue.specs.Choose.{firstBelow}
 use Rattle.queue.specs.Numbering.{readyQueue}
 use Rattle.queue.specs.Row.{placeAt}
-use Rattle.queue.proofs.Below.{by-test, first-below, first-ends}
+use Rattle.queue.proofs.Below.{by-test, first-below, first-equal}
 use Rattle.task.specs.declared.task.Result.{Result}
 use Rattle.task.specs.declared.task.Result.the-variants.{Nothing}
 use Rattle.task.specs.declared.task.State.the-variants.{Active}
@@ -35,14 +34,6 @@ use Rattle.records.proofs.Tasks.{result-read}
 use Rattle.records.proofs.Heads.{closed-byte, ready-headed}
 use Rattle.records.proofs.Leaves.{activated-image}
 use Rattle.inplace.specs.Ends.{Decides, Does}
-
--- two searches whose tests are the same below the bound
-first-equal : (n : ℕ) (p q : ℕ → Bool) → ((i : ℕ) → i < n → p i ≡ q i) → firstBelow n p ≡ firstBelow n q
-first-equal n p q same =
-    let f = first-below n p in
-    first-ends n q (firstBelow n p) (f .most)
-    (λ j h. sym (same j (omega (arith, f .most))) ∙ f .before j (omega arith) h)
-    (λ h. sym (same (firstBelow n p) h) ∙ f .passes h)
 
 -- the first queue in which the counts tell of somebody
 abbrev countedFirst : List ℕ → ℕ

@@ -1,6 +1,7 @@
 pub mod Loops
 pub mod Buffers
 pub mod Ways
+pub mod Queues
 pub mod Requests
 pub mod Messages
 pub mod Events

@@ -9,22 +9,23 @@ use lib.ListN.{getD}
 use lib.Seq.{getD-set-other}
 use lib.Dec.{ltb, leb, eqb}
 use borrow.Author.Tests.{eq-eqb, ne-eqb, leb-true, le-leb, ltb-true}
-use Rattle.queue.specs.Numbering.{places, sendQueue}
-use Rattle.queue.specs.Row.{placeAt, emptyRow}
+use Rattle.queue.specs.Numbering.{sendQueue}
+use Rattle.queue.specs.Row.{placeAt}
 use Rattle.queue.proofs.Below.{by-test, both-true, true-both}
 use Rattle.tid.specs.Tid.{slotOf, tidOf, slotNamed}
 use Rattle.tid.proofs.Trips.{slot-of-mark}
 use Rattle.task.specs.declared.task.Buffer.{Buffer}
 use Rattle.task.specs.declared.task.Result.the-variants.{Nothing, Value, Fault}
 use Rattle.task.specs.declared.task.State.the-variants.{Ready, SendBlocked, ReceiveBlocked, ReplyBlocked}
-use Rattle.task.specs.Task.{noTask, goodBuffer, messageOf, replyOf, isSendBlocked}
+use Rattle.task.specs.Task.{noTask, goodBuffer, messageOf, replyOf, isAlive, isSendBlocked}
 use Rattle.task.specs.Standing.{queueOf}
 use Rattle.kernel.specs.Table.{taskAt, queueAt}
 use Rattle.kernel.specs.Kinds.{alive, delivery, send, receive, reply}
 use Rattle.rules.specs.Good.{goodState}
 use Rattle.rules.proofs.States.{state-facts, facts-state}
-use Rattle.kept.proofs.Tasks.{codeAt, same-code, apart, value-good, buffer-small}
+use Rattle.kept.proofs.Tasks.{codeAt, same-code, unquiet, apart, value-good, buffer-small}
 use Rattle.kept.proofs.Moves.{slot-used, sender-head}
+use Rattle.kept.proofs.Woken.{wakes-none}
 use Rattle.kept.proofs.Entries.{alive-used}
 use Rattle.image.specs.Record.{atState, atAwaited, atMessage, atReply, recordLength, byteAt, bufferIn}
 use Rattle.image.specs.Image.{tableOf}
@@ -102,7 +103,9 @@ module _ {n used c : ℕ} {b count : List ℕ} (g : Begins n used c b count) (sm
             send-waits busy =
                 let (live, is) = named l in
                 let st = ReceiveBlocked (tidOf s) m r in
-                let code : isSendBlocked (taskAt (tableOf n b) s .state) ≡ false = ne-eqb _ 3 (λ e. busy (byte-code (g .stage) s l ∙ e)) in
+                let x = taskAt (tableOf n b) s .state in
+                let code : isSendBlocked x ≡ false = ne-eqb _ 3 (λ e. busy (byte-code (g .stage) s l ∙ e)) in
+                let exists : isAlive x ≡ true = rw (is, slot-of-mark s) at (both-true (ltb 0 target) _ live .1) in
                 let inside : s < used = omega (arith, alive-used (g .stage .rules) (g .runs running) target live) in
                 let good : goodState used c st ≡ true = facts-state used c st
                 (record {
@@ -113,7 +116,7 @@ module _ {n used c : ℕ} {b count : List ℕ} (g : Begins n used c b count) (sm
                 }) in
                 rw (live, another, fit, is, slot-of-mark s, code)
                 (queues-ends (g .stage) running (g .runs running) (sendQueue s) st (getD count (sendQueue s) 0) refl refl refl refl good (omega arith) (omega arith) (omega arith)
-                (λ j same. let own : j ≡ s = omega arith in rw own code)
+                (λ j same. let own : j ≡ s = omega arith in rw own (unquiet x exists code))
                 (λ e h same. absurd (omega arith)) (g .counted (sendQueue s) (omega arith)))
 
             -- the target waits for it: it is woken with the message, and the caller waits for a reply
@@ -215,8 +218,8 @@ module _ {n used c : ℕ} {b count : List ℕ} (g : Begins n used c b count) (sm
             λ at past fits. ap (λ (x : List ℕ). bufferIn x (s * recordLength + at)) closed ∙ closed-buffer (g .stage) 4 (tidOf c) used s at past fits in
             let message : sent ≡ messageOf sender = read ∙ stays atMessage (omega arith) (omega arith) ∙ message-at (g .stage) s l in
             let answer : reply ≡ replyOf sender = awaited ∙ stays atReply (omega arith) (omega arith) ∙ reply-at (g .stage) s l in
-            let next = rw (← head) at (receives-stage (g .stage) c running filled (rw (g .runs running))) in
+            let next = rw (← head) at (receives-stage (g .stage) c running filled) in
             let good = value-good used (messageOf sender .len) (tidOf s) (buffer-small (messageOf sender) (state-facts used s sender (f .tasks .each s sender-used .state) .message)) (omega (arith, sender-used)) in
             rw (fit, ne-eqb (queueAt t (sendQueue c) .len) 0 (λ e. omega (arith, filled)), ← head, message, left, answer, closed)
-            (goes-on-ends (nobody-woke next small (g .near) (λ _. same-code (getD-set-other (t .tasks) s c _ noTask (apart t 1 4 (g .runs running) sends (omega arith))) (g .runs running)) Nothing (emptyRow places) refl)
+            (goes-on-ends (nobody-woke next small (g .near) (λ _. same-code (getD-set-other (t .tasks) s c _ noTask (apart t 1 4 (g .runs running) sends (omega arith))) (g .runs running)) (wakes-none _ Nothing))
             _ running (Value (tidOf s) (messageOf sender .len)) good)

@@ -3,21 +3,21 @@
 use Prim.Native.Nat.{ℕ, _+_, _≤_, _<_}
 use mathlib.Core.Path.{_≡_, refl, sym}
 use mathlib.Core.Logic.{_≢_}
-use mathlib.Core.Bool.{true, false, false≢true}
+use mathlib.Core.Bool.{true, false}
 use mathlib.Core.List.{List}
 use native.Mathlib.Omega.{arith}
 use lib.ListN.{getD}
 use lib.Seq.{getD-set-other}
-use borrow.Author.Tests.{eq-eqb, ne-eqb, le-leb, lt-leb}
+use borrow.Author.Tests.{le-leb, lt-leb}
 use Rattle.tid.specs.Sizes.{priorities}
 use Rattle.tid.specs.Tid.{markOf, tidOf}
 use Rattle.queue.specs.Numbering.{places, sendQueue}
-use Rattle.queue.specs.Row.{emptyRow, aloneRow, pushedRow}
+use Rattle.queue.specs.Row.{emptyRow, aloneRow}
 use Rattle.task.specs.declared.task.Result.{Result}
 use Rattle.task.specs.declared.task.Result.the-variants.{Nothing, Value, Fault}
 use Rattle.task.specs.declared.task.State.{State}
 use Rattle.task.specs.declared.task.State.the-variants.{Ready, Exited}
-use Rattle.task.specs.Task.{firstNegative, noTask, isActive, isReady, isSendBlocked}
+use Rattle.task.specs.Task.{firstNegative, noTask, isActive, isReady, isQuiet}
 use Rattle.kernel.specs.declared.table.Effect.the-variants.{Keep}
 use Rattle.kernel.specs.Table.{slots, taskAt, queueAt, usedSlots}
 use Rattle.kernel.specs.Moves.{woken}
@@ -27,21 +27,25 @@ use Rattle.rules.specs.Good.{goodResult, goodState}
 use Rattle.rules.proofs.Good.{used-slots}
 use Rattle.kept.proofs.Tasks.{codeAt, same-code, isFree, free, apart, parent-before, value-good}
 use Rattle.kept.proofs.Moves.{slot-used, waking-one}
+use Rattle.kept.proofs.Woken.{wakes-none}
 use Rattle.image.specs.Record.{atParent, fields, byteAt}
 use Rattle.image.specs.Image.{tableOf}
 use Rattle.records.specs.Records.{withRecord}
 use Rattle.records.specs.Stage.{joinedBytes, joinedCount}
+use Rattle.records.specs.Woken.{wokenIn}
 use Rattle.records.proofs.Tasks.{byte-parent}
 use Rattle.records.proofs.Replaces.{adds-stage}
-use Rattle.inplace.specs.Ends.{Begins, resumesAt, stopsAt, Ends}
+use Rattle.records.proofs.Told.{sender-told}
+use Rattle.inplace.specs.Ends.{Wakes, Begins, resumesAt, stopsAt, Ends}
 use Rattle.inplace.proofs.Ways.{Woke, nobody-woke, slot-woke, goes-on-ends, halts-ends}
+use Rattle.inplace.proofs.Queues.{queue-wakes, queue-woke}
 
 module _ {n used c : ℕ} {b count : List ℕ} (g : Begins n used c b count) (small : n < 255) (running : c < n) where
   pub caller-used : c < used
   caller-used = slot-used (g .stage .rules) (rw (g .runs running))
 
-  nobody-wakes : Woke n used c n Nothing (emptyRow places) (tableOf n b) b count (tableOf n b) b count
-  nobody-wakes = nobody-woke (g .stage) small (g .near) (g .runs) Nothing (emptyRow places) refl
+  nobody-wakes : Woke n used c n Nothing (emptyRow places) Nothing (tableOf n b) b count (tableOf n b) b count
+  nobody-wakes = nobody-woke (g .stage) small (g .near) (g .runs) (wakes-none (tableOf n b) Nothing)
 
   -- the caller goes on with a result
   pub resumes-ends : (o : Result) → goodResult used o ≡ true → Ends n c (resumes (tableOf n b) o) (resumesAt n used o) b count
@@ -67,24 +71,32 @@ module _ {n used c : ℕ} {b count : List ℕ} (g : Begins n used c b count) (sm
 
   -- the caller stops, and stands in no queue
   pub stops-ends : (st : State) → isReady st ≡ false → isFree st ≡ true → isActive st ≡ false → goodState used c st ≡ true
-      → (isSendBlocked st ≡ true → queueAt (tableOf n b) (sendQueue c) .len ≡ 0)
+      → (isQuiet st ≡ true → queueAt (tableOf n b) (sendQueue c) .len ≡ 0)
       → Ends n c (stops (tableOf n b) st) (stopsAt n used st 0) b count
   stops-ends = halts-ends nobody-wakes Keep running
 
-  pub exit-ends : Ends n c (exit (tableOf n b)) (stopsAt n used Exited 0) b count
+  -- Exit: whoever is queued at the caller is woken, and then nobody is
+  senders : getD count (sendQueue c) 0 ≡ queueAt (tableOf n b) (sendQueue c) .len
+  senders = g .counted (sendQueue c) (omega arith)
+
+  pub exit-wakes : Wakes n used 4 (tidOf c) (getD count (sendQueue c) 0) (Fault 2) b count
+  exit-wakes = rw senders (queue-wakes g small 4 (tidOf c) (sendQueue c) (λ x f. sender-told f c running) (omega arith) (Fault 2) refl)
+
+  pub exit-ends : let h = wokenIn n used 4 (tidOf c) (Fault 2) b count (getD count (sendQueue c) 0) in
+      Ends n c (exit (tableOf n b) c) (stopsAt n used Exited 0) (h .bytes) (h .counts)
   unfolding exit
-  exit-ends = stops-ends Exited refl refl refl refl (λ e. absurd (false≢true e))
+  exit-ends =
+      let (woke, none) = queue-woke g small 4 (tidOf c) (sendQueue c) (λ x f. sender-told f c running) (omega arith) (Fault 2) refl in
+      rw senders (halts-ends woke Keep running Exited refl refl refl refl (λ _. none))
 
   -- a free task is woken alone
   pub one-wakes : (s code : ℕ) (told : Result) → codeAt (tableOf n b) s ≡ code → isFree (taskAt (tableOf n b) s .state) ≡ true → code ≢ 1 → goodResult used told ≡ true
-      → Woke n used c s told (aloneRow (markOf s)) (tableOf n b) b count (woken (tableOf n b) (markOf s) told) (joinedBytes b count s told) (joinedCount b count s)
-  unfolding pushedRow
+      → Woke n used c s told (aloneRow (markOf s)) told (tableOf n b) b count (woken (tableOf n b) (markOf s) told) (joinedBytes b count s told) (joinedCount b count s)
   one-wakes s code told is free-one other good =
       let old = g .stage in
       let l : s < used = slot-used (old .rules) (free n (taskAt (tableOf n b) s) free-one .is-used) in
       slot-woke (record { rules = waking-one (old .rules) s free-one; records = old .records; counts = old .counts; long = old .long })
-      small (g .near) (g .runs) s told (aloneRow (markOf s)) l (eq-eqb s s refl) (λ j _ ne. ne-eqb j s ne)
-      (apart (tableOf n b) 1 code (g .runs running) is (λ e. other (sym e))) good refl refl
+      small (g .near) (g .runs) told l (apart (tableOf n b) 1 code (g .runs running) is (λ e. other (sym e))) good
 
   -- Create.
   module _ (p : ℕ) where
@@ -105,13 +117,12 @@ module _ {n used c : ℕ} {b count : List ℕ} (g : Begins n used c b count) (sm
       pub create-adds : used < n → Ends n c (create (tableOf n b) c p)
           (record { used = used + 1; woken = used; told = Nothing; state = Ready; place = 0; result = Value 0 (tidOf used); effect = Keep })
           (withRecord b used (fields (newTask p c) (getD count p 0))) count
-      unfolding create pushedRow
+      unfolding create
       create-adds room =
           let x = newTask p c in
           let other : c ≢ used = λ e. omega (arith, caller-used) in
           let added = rw first-free at (adds-stage (g .stage) p c room low caller-used) in
           rw (lt-leb priorities p low, first-free, lt-leb (slots (tableOf n b)) used (omega (arith, g .stage .rules .size)))
           (goes-on-ends
-          (slot-woke added small (g .near) (λ _. same-code (getD-set-other (tableOf n b .tasks) used c x noTask other) (g .runs running)) used Nothing (aloneRow (markOf used))
-          (omega arith) (eq-eqb used used refl) (λ j _ ne. ne-eqb j used ne) other refl refl refl)
+          (slot-woke added small (g .near) (λ _. same-code (getD-set-other (tableOf n b .tasks) used c x noTask other) (g .runs running)) Nothing (omega arith) other refl)
           Keep running (Value 0 (tidOf used)) (value-good (used + 1) (tidOf used) 0 (omega arith) (omega arith)))

@@ -2,26 +2,25 @@
 use Prim.Native.Nat.{ℕ, _*_, _≤_, _<_}
 use mathlib.Core.Path.{_≡_, refl, sym, ap, _∙_}
 use mathlib.Core.Logic.{_≢_}
-use mathlib.Core.Bool.{Bool, true, false, false≢true}
+use mathlib.Core.Bool.{Bool, true, false}
 use mathlib.Core.List.{List}
 use native.Mathlib.Nat.{le-refl}
 use native.Mathlib.Omega.{arith}
 use lib.ListN.{length}
-use lib.Dec.{ltb}
-use borrow.Author.Tests.{lt-ltb, le-ltb}
+use lib.Dec.{ltb, eqb}
+use borrow.Author.Tests.{eq-eqb, ne-eqb, lt-ltb, le-ltb}
 use Rattle.tid.specs.Sizes.{priorities, events}
 use Rattle.tid.specs.Tid.{markOf}
 use Rattle.tid.proofs.Trips.{slot-of-mark}
 use Rattle.queue.specs.declared.Queue.{Queue}
 use Rattle.queue.specs.Choose.{choose}
 use Rattle.queue.specs.Numbering.{eventQueue, sendQueue, queuesFor}
-use Rattle.queue.specs.Row as Row
-use Rattle.queue.specs.Row.{placeAt}
+use Rattle.queue.specs.Row.{aloneRow, pushedRow}
 use Rattle.task.specs.declared.task.Result.{Result}
 use Rattle.task.specs.declared.task.Result.the-variants.{Nothing}
 use Rattle.task.specs.declared.task.State.{State}
 use Rattle.task.specs.declared.task.State.the-variants.{Ready}
-use Rattle.task.specs.Task.{isUsed, isActive, isReady, isSendBlocked, taskAs}
+use Rattle.task.specs.Task.{isUsed, isActive, isReady, isQuiet, taskAs}
 use Rattle.task.proofs.Tests.{clash}
 use Rattle.kernel.specs.declared.table.Table.{Table}
 use Rattle.kernel.specs.declared.table.Turn as Kernel
@@ -67,8 +66,9 @@ joinable {n} {used} {a} {w} {t} g small s l =
       room = rw (own, g .counts p low) (omega (arith, row .fits, f .lined .shaped .places p (omega arith)));
     }
 
--- Slot s was woken, or nobody, where s is n: the turn's table was t before it, and the caller's own move starts from t′.
-pub record Woke (n used c s : ℕ) (told : Result) (row : Queue) (t : Table) (b count : List ℕ) (t′ : Table) (b′ count′ : List ℕ) : Type 0 where
+-- Slot s is left to be woken, or nobody, where s is n: the turn's table is t, it wakes a row that is told `said`, and the caller's own move
+-- starts from t′.
+pub record Woke (n used c s : ℕ) (told : Result) (row : Queue) (said : Result) (t : Table) (b count : List ℕ) (t′ : Table) (b′ count′ : List ℕ) : Type 0 where
   pub small : n < 255
   pub size : length b ≡ n * recordLength
   pub near : c ≤ n
@@ -77,40 +77,32 @@ pub record Woke (n used c s : ℕ) (told : Result) (row : Queue) (t : Table) (b 
   pub counts : choose (ltb s n) (joinedCount b count s) count ≡ count′
   pub stage : Stage n used c nobody t′ b′ count′
   pub runs : c < n → codeAt t′ c ≡ 1
-  pub table : wokenRow t row told ≡ t′
+  pub table : wokenRow t row said ≡ t′
 
--- a row where one stands wakes that one
-one-stands : (t : Table) (row : Queue) (told : Result) (s : ℕ) → Row.count row ≡ 1 → placeAt row 0 ≡ markOf s
-    → wokenRow t row told ≡ woken t (markOf s) told
-unfolding wokenUpTo
-one-stands t row told s one own = rw (one, own)
+-- the one slot that is being woken, not the caller's, joins the tail of its queue
+pub slot-woke : {n used c s : ℕ} {t : Table} {b count : List ℕ} → Stage n used c (λ j. eqb j s) t b count → n < 255 → c ≤ n
+    → (c < n → codeAt t c ≡ 1) → (told : Result) → s < used → c ≢ s → goodResult used told ≡ true
+    → Woke n used c s told (aloneRow (markOf s)) told t b count (woken t (markOf s) told) (joinedBytes b count s told) (joinedCount b count s)
+unfolding wokenUpTo pushedRow
+slot-woke {n} {used} {c} {s} {t} g small near runs told l apart good =
+    let inside : s < n = omega (arith, g .rules .tasks .fits) in
+    record {
+      small = small;
+      size = g .records .size;
+      near = near;
+      joins = λ _. joinable g small s l;
+      bytes = rw (lt-ltb s n inside);
+      counts = rw (lt-ltb s n inside);
+      stage = joins-stage g s c told l (rw (eq-eqb s s refl)) (λ _. refl) good (λ j _ ne. ne-eqb j s ne);
+      runs = λ h. same-code (woken-other t (markOf s) told (λ e. apart (e ∙ slot-of-mark s))) (runs h);
+      table = refl;
+    }
 
-module _ {n used c : ℕ} {w : ℕ → Bool} {t : Table} {b count : List ℕ} (g : Stage n used c w t b count) (small : n < 255) (near : c ≤ n)
-    (runs : c < n → codeAt t c ≡ 1) where
-  -- the one slot that is being woken, not the caller's, joins the tail of its queue
-  pub slot-woke : (s : ℕ) (told : Result) (row : Queue) → s < used → w s ≡ true → ((j : ℕ) → j < n → j ≢ s → w j ≡ false) → c ≢ s
-      → goodResult used told ≡ true → Row.count row ≡ 1 → placeAt row 0 ≡ markOf s
-      → Woke n used c s told row t b count (woken t (markOf s) told) (joinedBytes b count s told) (joinedCount b count s)
-  slot-woke s told row l own others apart good one stands =
-      let inside : s < n = omega (arith, g .rules .tasks .fits) in
-      record {
-        small = small;
-        size = g .records .size;
-        near = near;
-        joins = λ _. joinable g small s l;
-        bytes = rw (lt-ltb s n inside);
-        counts = rw (lt-ltb s n inside);
-        stage = joins-stage g s c nobody told l (rw own) (λ _. refl) good refl (λ j h ne. sym (others j h ne)) (λ j h ne e. clash e (others j h ne));
-        runs = λ h. same-code (woken-other t (markOf s) told (λ e. apart (e ∙ slot-of-mark s))) (runs h);
-        table = one-stands t row told s one stands;
-      }
-
--- nobody is woken
-pub nobody-woke : {n used c : ℕ} {t : Table} {b count : List ℕ} → Stage n used c nobody t b count → n < 255 → c ≤ n
-    → (c < n → codeAt t c ≡ 1) → (told : Result) (row : Queue) → Row.count row ≡ 0
-    → Woke n used c n told row t b count t b count
-unfolding wokenUpTo
-nobody-woke {n} g small near runs told row none =
+-- nobody is left to be woken
+pub nobody-woke : {n used c : ℕ} {row : Queue} {said : Result} {t t′ : Table} {b count : List ℕ} → Stage n used c nobody t′ b count
+    → n < 255 → c ≤ n → (c < n → codeAt t′ c ≡ 1) → wokenRow t row said ≡ t′
+    → Woke n used c n Nothing row said t b count t′ b count
+nobody-woke {n} g small near runs table =
     record {
       small = small;
       size = g .records .size;
@@ -120,14 +112,14 @@ nobody-woke {n} g small near runs told row none =
       counts = rw (le-ltb n n (le-refl n));
       stage = g;
       runs = runs;
-      table = rw none;
+      table = table;
     }
 
 -- How the caller is left.
-module _ {n used c s : ℕ} {told : Result} {row : Queue} {t t′ : Table} {b b′ count count′ : List ℕ}
-    (w : Woke n used c s told row t b count t′ b′ count′) (effect : Effect) where
+module _ {n used c s : ℕ} {told said : Result} {row : Queue} {t t′ : Table} {b b′ count count′ : List ℕ}
+    (w : Woke n used c s told row said t b count t′ b′ count′) (effect : Effect) where
   abbrev turn : State → Result → Kernel.Turn
-  turn st o = record { table = t; woken = row; told = told; state = st; result = o; effect = effect }
+  turn st o = record { table = t; woken = row; told = said; state = st; result = o; effect = effect }
 
   abbrev turnAt : State → ℕ → Result → Turn
   turnAt st place o = record { used = used; woken = s; told = told; state = st; place = place; result = o; effect = effect }
@@ -175,12 +167,12 @@ module _ {n used c s : ℕ} {told : Result} {row : Queue} {t t′ : Table} {b b�
         let g = w .stage in
         ends Ready 0 o (woken t′ (markOf c) o) (λ _ _. joinable g (w .small) c caller-used)
         (rw (lt-ltb c n running, w .bytes, w .counts)
-        (joins-stage g c n nobody o caller-used (free n (taskAt t′ c) (rw (w .runs running)) .nowhere) (λ ne. absurd (ne refl)) good refl (λ _ _ _. refl) (λ j _ _ e. absurd (false≢true e))))
+        (joins-stage g c n o caller-used (free n (taskAt t′ c) (rw (w .runs running)) .nowhere) (λ ne. absurd (ne refl)) good (λ _ _ _. refl)))
         (rejoined-ready t′ c o within)
 
     -- it stops, and stands in no queue
     pub halts-ends : (st : State) → isReady st ≡ false → isFree st ≡ true → isActive st ≡ false → goodState used c st ≡ true
-        → (isSendBlocked st ≡ true → queueAt t′ (sendQueue c) .len ≡ 0)
+        → (isQuiet st ≡ true → queueAt t′ (sendQueue c) .len ≡ 0)
         → Ends n c (turn st Nothing) (turnAt st 0 Nothing) b count
     unfolding endBytes endCount
     halts-ends st unready stays still good quiet =
@@ -190,9 +182,9 @@ module _ {n used c s : ℕ} {told : Result} {row : Queue} {t t′ : Table} {b b�
 
 -- nobody is woken, and the caller stops to stand in a queue, at its tail
 pub queues-ends : {n used c : ℕ} {t : Table} {b count : List ℕ} → Stage n used c nobody t b count → c < n → codeAt t c ≡ 1
-    → (k : ℕ) (st : State) (place : ℕ) → isUsed st ≡ true → isActive st ≡ false → isReady st ≡ false → isSendBlocked st ≡ false → goodState used c st ≡ true
+    → (k : ℕ) (st : State) (place : ℕ) → isUsed st ≡ true → isActive st ≡ false → isReady st ≡ false → isQuiet st ≡ false → goodState used c st ≡ true
     → priorities ≤ k → k < queuesFor n → standing n (taskAs st Nothing (taskAt t c)) ≡ k
-    → ((j : ℕ) → sendQueue j ≡ k → isSendBlocked (taskAt t j .state) ≡ false)
+    → ((j : ℕ) → sendQueue j ≡ k → isQuiet (taskAt t j .state) ≡ false)
     → ((e : ℕ) → e < events → eventQueue e ≡ k → queueAt t k .len ≡ 0)
     → place ≡ queueAt t k .len
     → Ends n c (stops (queued t k (markOf c)) st) (stopsAt n used st place) b count

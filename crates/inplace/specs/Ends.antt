@@ -22,10 +22,11 @@ use Rattle.kernel.specs.Table.{taskAt}
 use Rattle.kernel.specs.Moves.{wokenRow, rejoined}
 use Rattle.kernel.specs.Kinds.{delivery}
 use Rattle.rules.specs.Facts.{nobody}
-use Rattle.image.specs.Record.{recordLength, atState, atPriority, byteAt}
+use Rattle.image.specs.Record.{recordLength, atState, atPriority, atAwaited, byteAt}
 use Rattle.image.specs.Image.{imageOf, tableOf}
 use Rattle.records.specs.Records.{upAt, closedUp, leadsAt, headOf}
 use Rattle.records.specs.Stage.{Counted, Stage, leftBytes, joinedBytes, joinedCount}
+use Rattle.records.specs.Woken.{wokenIn}
 use Rattle.inplace.specs.declared.kinds.Turn.{Turn}
 use Rattle.inplace.specs.declared.Shown.{Shown}
 
@@ -49,6 +50,14 @@ aliveAt n b g =
 pub record Joinable (b count : List ℕ) (s : ℕ) : Type 0 where
   pub priority : byteAt b s atPriority < priorities
   pub room : getD count (byteAt b s atPriority) 0 < 255
+
+-- what waking the first m of a queue needs: whoever leaves it is a slot that may join its own
+pub record Wakes (n used code key m : ℕ) (o : Result) (b count : List ℕ) : Type 0 where
+  pub fits : used ≤ n
+  pub size : length b ≡ n * recordLength
+  pub joins : (i : ℕ) → i < m → let h = wokenIn n used code key o b count i in
+      let s = headOf code atAwaited key n (h .bytes) used in
+      (s < n) × Joinable (closedUp code atAwaited key (h .bytes) used) (h .counts) s
 
 -- what an entry begins with: the image of a table that keeps the rules, and how many stand in each of its queues
 pub record Begins (n used a : ℕ) (b count : List ℕ) : Type 0 where

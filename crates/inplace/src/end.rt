@@ -1,7 +1,6 @@
 // The end of every entry.
 ghost use mathlib.Core.Path.{_≡_};
-ghost use Prim.Native.Nat.{_*_, _<_};
-ghost use lib.ListN.{length, getD};
+ghost use lib.ListN.{getD};
 ghost use lib.Dec.{ltb};
 ghost use Rattle.tid.specs.Sizes.{slotCount, priorities};
 ghost use Rattle.queue.specs.Choose.{firstBelow};
@@ -9,15 +8,15 @@ ghost use Rattle.task.specs.declared.task.Result.the-variants as O;
 ghost use Rattle.kernel.specs.declared.table.Effect.the-variants as E;
 ghost use Rattle.kernel.specs.Moves as Moves;
 ghost use Rattle.rules.specs.Facts as Facts;
-ghost use Rattle.image.specs.Record.{recordLength};
 ghost use Rattle.image.specs.Image.{tableOf};
-ghost use Rattle.records.specs.Stage.{Stage, joinedBytes, joinedCount};
-ghost use Rattle.inplace.specs.Ends.{Joinable, Settles, endBytes, Decides, Does};
+ghost use Rattle.records.specs.Stage.{Stage};
+ghost use Rattle.inplace.specs.Ends.{Settles, endBytes, Decides, Does};
 use crate::Shown;
 use crate::kinds::Turn;
 use crate::store::close_up;
 use crate::store::leave;
 use crate::store::result_at;
+use crate::wake::join;
 use image::fields::PRIORITY;
 use image::fields::RECORD;
 use kernel::numbers::ACCEPTED;
@@ -31,18 +30,6 @@ use task::task::State;
 use tid::sizes::PRIORITIES;
 use tid::sizes::SLOTS;
 use tid::tid_of;
-
-// A task becomes ready with a result, and joins the tail of the queue of its priority.
-fn join(image: &mut [u8], count: &mut [u8; QUEUES], s: usize, result: Result)
-    requires { ⌜ (s < slotCount) × ((length (now image) ≡ slotCount * recordLength) × Joinable (now image) (now count) s) ⌝ }
-    ensures image { λ r. ⌜ now (image .exit) ≡ joinedBytes (now (image .entry)) (now (count .entry)) s result ⌝ }
-    ensures count { λ r. ⌜ now (count .exit) ≡ joinedCount (now (image .entry)) (now (count .entry)) s ⌝ }
-{
-    let p = wide(image[s * RECORD + PRIORITY]);
-    let place = count[p];
-    leave(&mut *image, s, State::Ready, result, place);
-    count[p] = place + 1;
-}
 
 // The first ready queue where somebody stands; PRIORITIES where nobody stands in any.
 fn first_ready(count: &[u8; QUEUES]) -> usize

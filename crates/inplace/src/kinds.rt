@@ -15,6 +15,7 @@ use crate::store::buffer_at;
 use crate::store::close_up;
 use crate::store::leave;
 use crate::store::put;
+use crate::wake::wake_all;
 use image::fields::AWAITED;
 use image::fields::MESSAGE;
 use image::fields::PARENT;
@@ -58,7 +59,7 @@ use tid::slot_named;
 use tid::tid_of;
 
 // What the work of a request leaves besides the image: how many slots are used now, who is woken (SLOTS for nobody) and what it is told,
-// and the caller's own next state, its place there and its result.
+// and the caller's own next state, its place there and its result. Where a whole queue is woken, it has been already.
 pub(crate) struct Turn {
     pub used: usize,
     pub woken: usize,
@@ -186,6 +187,24 @@ fn delivers(used: usize, c: usize, message: Buffer, reply: Buffer, s: usize, int
     }
 }
 
+// Whoever is queued at the caller is woken: what it sent cannot be received any more.
+fn exit(image: &mut [u8], used: usize, count: &mut [u8; QUEUES], c: usize) -> Turn
+    requires { ⌜ (c < slotCount) × Begins slotCount used c (now image) (now count) ⌝ }
+    ensures { λ r. ⌜ Ends slotCount c (Kinds.exit (tableOf slotCount (now (image .entry))) c) r (now (image .exit)) (now (count .exit)) ⌝ }
+{
+    let senders = count[FIRST_SEND + c];
+    wake_all(
+        &mut *image,
+        used,
+        &mut *count,
+        RECEIVE_BLOCKED,
+        tid_of(c),
+        senders,
+        Result::Fault(2),
+    );
+    stops(used, State::Exited, 0)
+}
+
 fn send(
     image: &[u8],
     used: usize,
@@ -303,32 +322,30 @@ fn await_event(image: &[u8], used: usize, count: &[u8; QUEUES], c: usize, event:
     stops(used, State::EventBlocked(event as u8), 0)
 }
 
-// The one who waits is at the head of the event's queue; nobody is behind it.
+// Whoever is active is interrupted, and goes on behind those who waited.
 fn event(
     image: &mut [u8],
     used: usize,
-    count: &[u8; QUEUES],
+    count: &mut [u8; QUEUES],
     c: usize,
     number: u32,
     word: u32,
 ) -> Turn
     requires { ⌜ (number < events) × Begins slotCount used c (now image) (now count) ⌝ }
-    ensures { λ r. ⌜ Ends slotCount c (Kinds.event (tableOf slotCount (now (image .entry))) number word) r (now (image .exit)) (now (count .entry)) ⌝ }
+    ensures { λ r. ⌜ Ends slotCount c (Kinds.event (tableOf slotCount (now (image .entry))) number word) r (now (image .exit)) (now (count .exit)) ⌝ }
 {
     let e = number as usize;
-    let mut woken = SLOTS;
-    if 0 < count[FIRST_EVENT + e] {
-        woken = close_up(&mut *image, used, EVENT_BLOCKED, AWAITED, e as u8);
-    }
-    Turn {
+    let waiters = count[FIRST_EVENT + e];
+    wake_all(
+        &mut *image,
         used,
-        woken,
-        told: signal(word),
-        state: State::Ready,
-        place: 0,
-        result: Result::Nothing,
-        effect: Effect::Keep,
-    }
+        &mut *count,
+        EVENT_BLOCKED,
+        e as u8,
+        waiters,
+        signal(word),
+    );
+    resumes(used, Result::Nothing)
 }
 
 fn buffer(start: u32, len: u32) -> Buffer
@@ -341,32 +358,32 @@ fn buffer(start: u32, len: u32) -> Buffer
 pub(crate) fn turned(
     image: &mut [u8],
     used: usize,
-    count: &[u8; QUEUES],
+    count: &mut [u8; QUEUES],
     c: usize,
     r: Request,
 ) -> Turn
     requires { ⌜ Enters slotCount c r × Begins slotCount used c (now image) (now count) ⌝ }
-    ensures { λ u. ⌜ Ends slotCount c (Decide.turnOf (tableOf slotCount (now (image .entry))) c r) u (now (image .exit)) (now (count .entry)) ⌝ }
+    ensures { λ u. ⌜ Ends slotCount c (Decide.turnOf (tableOf slotCount (now (image .entry))) c r) u (now (image .exit)) (now (count .exit)) ⌝ }
 {
     let kind = r.kind;
     match kind {
-        CREATE => create(&mut *image, used, count, c, r.arg0),
+        CREATE => create(&mut *image, used, &*count, c, r.arg0),
         MY_TID => number(used, tid_of(c) as u32),
         MY_PARENT_TID => my_parent_tid(&*image, used, c),
         YIELD => number(used, 0),
-        EXIT => stops(used, State::Exited, 0),
+        EXIT => exit(&mut *image, used, &mut *count, c),
         SEND => send(
             &*image,
             used,
-            count,
+            &*count,
             c,
             r.arg0,
             buffer(r.arg1, r.arg2),
             buffer(r.arg3, r.arg4),
         ),
-        RECEIVE => receive(&mut *image, used, count, c, buffer(r.arg0, r.arg1)),
-        REPLY_KIND => reply(&*image, used, count, c, r.arg0, buffer(r.arg1, r.arg2)),
-        AWAIT_EVENT => await_event(&*image, used, count, c, r.arg0),
-        _ => event(&mut *image, used, count, c, r.arg0, r.arg1),
+        RECEIVE => receive(&mut *image, used, &*count, c, buffer(r.arg0, r.arg1)),
+        REPLY_KIND => reply(&*image, used, &*count, c, r.arg0, buffer(r.arg1, r.arg2)),
+        AWAIT_EVENT => await_event(&*image, used, &*count, c, r.arg0),
+        _ => event(&mut *image, used, &mut *count, c, r.arg0, r.arg1),
     }
 }

@@ -2,6 +2,7 @@
 mod end;
 mod kinds;
 mod store;
+mod wake;
 
 ghost use mathlib.Core.Path.{_≡_};
 ghost use Rattle.tid.specs.Sizes.{slotCount};
@@ -67,6 +68,6 @@ pub fn decide(image: &mut [u8], r: Request) -> Shown
         return told_nothing(ACCEPTED, tid_of(a), effect);
     }
     let mut count = found.count;
-    let turn = turned(&mut *image, found.used, &count, a, r);
+    let turn = turned(&mut *image, found.used, &mut count, a, r);
     settled(&mut *image, &mut count, a, turn)
 }

@@ -1,4 +1,4 @@
--- Whom an entry concerns beside the caller: what the four tests of `View` tell, and how each leaves the record of slot s.
+-- Whom an entry concerns beside the caller: what the five tests of `View` tell, and how each leaves the record of slot s.
 use Prim.Native.Nat.{ℕ, _<_}
 use mathlib.Core.Path.{_≡_, ap, _∙_}
 use mathlib.Core.Logic.{_≢_}
@@ -10,12 +10,12 @@ use Rattle.queue.specs.Row.{placeAt}
 use Rattle.queue.proofs.Below.{by-test, both-true, true-both}
 use Rattle.tid.specs.Tid.{markOf, slotOf, tidOf}
 use Rattle.tid.proofs.Trips.{slot-of-mark}
-use Rattle.task.specs.declared.task.Result.the-variants.{Nothing, Value}
+use Rattle.task.specs.declared.task.Result.the-variants.{Nothing, Value, Fault}
 use Rattle.task.specs.declared.task.State.the-variants.{Ready, ReplyBlocked}
 use Rattle.task.specs.Task.{goodBuffer, replyOf, awaited, taskAs}
 use Rattle.kernel.specs.declared.table.Table.{Table}
 use Rattle.kernel.specs.declared.table.Request.{Request}
-use Rattle.kernel.specs.Numbers.{sendKind, receiveKind, replyKind, eventKind}
+use Rattle.kernel.specs.Numbers.{exitKind, sendKind, receiveKind, replyKind, eventKind}
 use Rattle.kernel.specs.Table.{slots, taskAt, queueAt, activeSlot}
 use Rattle.kernel.specs.Kinds.{signal}
 use Rattle.kernel.specs.Refusal.{Enters}
@@ -24,7 +24,7 @@ use Rattle.kernel.proofs.Refusals.{fine}
 use Rattle.rules.specs.Facts.{Good}
 use Rattle.kept.proofs.Tasks.{codeAt}
 use Rattle.kept.proofs.Moves.{sender-head}
-use Rattle.laws.specs.View.{isSentTo, isReceivedFrom, isRepliedTo, isSignalled, othersLeft}
+use Rattle.laws.specs.View.{isSentTo, isReceivedFrom, isRepliedTo, isSignalled, waitsAt, isTurnedAway, othersLeft}
 
 -- a test that cannot pass
 pub fails : {b : Bool} → (b ≡ true → ⊥) → b ≡ false
@@ -54,6 +54,11 @@ module _ (t : Table) (r : Request) (s : ℕ) where
     pub kind : r .kind ≡ eventKind
     pub state : codeAt t s ≡ 6
     pub event : awaited (taskAt t s .state) ≡ r .arg0
+
+  pub record TurnedAway : Type 0 where
+    pub kind : r .kind ≡ exitKind
+    pub state : codeAt t s ≡ 4
+    pub target : awaited (taskAt t s .state) ≡ activeTid t
 
   pub sent-facts : isSentTo t r s ≡ true → Sent
   sent-facts h =
@@ -119,7 +124,20 @@ module _ (t : Table) (r : Request) (s : ℕ) where
   facts-signalled : Signalled → isSignalled t r s ≡ true
   facts-signalled f = true-both (true-both (eq-eqb _ _ (f .kind)) (eq-eqb _ 6 (f .state))) (eq-eqb _ _ (f .event))
 
-  -- at most one of the four is so, and where none is the task is not concerned
+  turned-facts : isTurnedAway t r s ≡ true → TurnedAway
+  turned-facts h =
+      let two = both-true _ (waitsAt t (activeTid t) s) h in
+      let one = both-true _ _ (two .1) in
+      record {
+        kind = eqb-true (r .kind) exitKind (two .0);
+        state = eqb-true (codeAt t s) 4 (one .0);
+        target = eqb-true (awaited (taskAt t s .state)) (activeTid t) (one .1);
+      }
+
+  facts-turned : TurnedAway → isTurnedAway t r s ≡ true
+  facts-turned f = true-both (eq-eqb _ _ (f .kind)) (true-both (eq-eqb _ 4 (f .state)) (eq-eqb _ _ (f .target)))
+
+  -- at most one of the five is so, and where none is the task is not concerned
   pub left-sent : Sent → othersLeft t r s ≡ taskAs Ready (Value (activeTid t) (r .arg2)) (taskAt t s)
   unfolding othersLeft
   left-sent f = rw (facts-sent f)
@@ -143,14 +161,26 @@ module _ (t : Table) (r : Request) (s : ℕ) where
         facts-signalled f,
       )
 
-  pub left-aside : (Sent → ⊥) → (Received → ⊥) → (Replied → ⊥) → (Signalled → ⊥) → othersLeft t r s ≡ taskAt t s
+  pub left-turned : TurnedAway → othersLeft t r s ≡ taskAs Ready (Fault 2) (taskAt t s)
   unfolding othersLeft
-  left-aside a b c d =
+  left-turned f =
       rw (
-        fails (λ e. a (sent-facts e)),
-        fails (λ e. b (received-facts e)),
-        fails (λ e. c (replied-facts e)),
-        fails (λ e. d (signalled-facts e)),
+        fails (λ e. let g = sent-facts e in omega arith),
+        fails (λ e. let g = received-facts e in omega arith),
+        fails (λ e. let g = replied-facts e in omega arith),
+        fails (λ e. let g = signalled-facts e in omega arith),
+        facts-turned f,
+      )
+
+  pub left-aside : (Sent → ⊥) → (Received → ⊥) → (Replied → ⊥) → (Signalled → ⊥) → (TurnedAway → ⊥) → othersLeft t r s ≡ taskAt t s
+  unfolding othersLeft
+  left-aside a b c d e =
+      rw (
+        fails (λ h. a (sent-facts h)),
+        fails (λ h. b (received-facts h)),
+        fails (λ h. c (replied-facts h)),
+        fails (λ h. d (signalled-facts h)),
+        fails (λ h. e (turned-facts h)),
       )
 
 -- whose message is received is receive-blocked
@@ -167,3 +197,4 @@ pub left-alone : {n : ℕ} {t : Table} (good : Good n t) (r : Request) (s : ℕ)
     → codeAt t s ≢ 3 → codeAt t s ≢ 4 → (codeAt t s ≡ 5 → Replied t r s → ⊥) → codeAt t s ≢ 6 → othersLeft t r s ≡ taskAt t s
 left-alone {n} {t} good r s enters three four five six =
     left-aside t r s (λ f. three (f .state)) (λ f. four (received-state good enters f)) (λ f. five (f .state) f) (λ f. six (f .state))
+    (λ f. four (f .state))

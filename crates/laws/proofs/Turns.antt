@@ -1,5 +1,5 @@
 -- What the work of each kind leaves: of the caller's record, of the others', and of the ready queues.
-use Prim.Native.Nat.{ℕ, _<_}
+use Prim.Native.Nat.{ℕ, _≤_, _<_}
 use mathlib.Core.Path.{_≡_, refl, sym, ap, _∙_}
 use mathlib.Core.Logic.{_≢_, ⊎-elim}
 use mathlib.Core.Bool.{Bool, true, false, not, _&&_}
@@ -11,7 +11,7 @@ use lib.Dec.{ltb, leb, eqb}
 use borrow.Author.Tests.{eqb-true, eqb-false, eq-eqb, ne-eqb, leb-false, lt-ltb, not-true, not-false}
 use Rattle.queue.specs.Choose.{choose}
 use Rattle.queue.specs.Numbering.{places, readyQueue, eventQueue, sendQueue, queuesFor}
-use Rattle.queue.specs.Row.{placeAt, emptyRow}
+use Rattle.queue.specs.Row.{placeAt, emptyRow, emptied}
 use Rattle.queue.specs.Rows.{noRow}
 use Rattle.queue.specs.Facts.{RowFacts}
 use Rattle.queue.proofs.Below.{by-test, both-true, true-both}
@@ -32,19 +32,20 @@ use Rattle.kernel.specs.declared.table.Request.{Request}
 use Rattle.kernel.specs.declared.table.Effect.the-variants.{Keep}
 use Rattle.kernel.specs.declared.table.Turn.{Turn}
 use Rattle.kernel.specs.Numbers.{createKind, myTidKind, myParentTidKind, yieldKind, exitKind, sendKind, receiveKind, replyKind, awaitEventKind, eventKind}
-use Rattle.kernel.specs.Table.{slots, taskAt, queueAt, activeSlot, usedSlots}
+use Rattle.kernel.specs.Table.{slots, taskAt, queueAt, withQueue, activeSlot, usedSlots}
 use Rattle.kernel.specs.Moves.{queued}
 use Rattle.kernel.specs.Kinds.{alive, create, myTid, myParentTid, yield, exit, send, receive, reply, awaitEvent, event}
 use Rattle.kernel.specs.Refusal.{Enters}
-use Rattle.kernel.specs.Decide.{buffer, turnOf}
+use Rattle.kernel.specs.Decide.{activeTid, buffer, turnOf}
 use Rattle.kernel.proofs.Refusals.{fine}
 use Rattle.rules.specs.Facts.{standing, nobody, Good}
+use Rattle.rules.proofs.Targets.{sender}
 use Rattle.kept.proofs.Tasks.{codeAt, apart, free}
 use Rattle.kept.proofs.Moves.{slot-used, stander-used, sender-head}
 use Rattle.kept.proofs.Entries.{alive-used}
 use Rattle.laws.specs.View.{othersLeft}
-use Rattle.laws.proofs.Landing.{active-code, alive-at}
-use Rattle.laws.proofs.Concerns.{Sent, Received, Replied, Signalled, left-sent, left-received, left-replied, left-signalled, left-aside}
+use Rattle.laws.proofs.Landing.{active-code, known-state, alive-at}
+use Rattle.laws.proofs.Concerns.{Sent, Received, Replied, Signalled, left-sent, left-received, left-replied, left-signalled, left-turned, left-aside}
 
 -- the turn wakes others than the caller, and leaves them, once they are woken, as `othersLeft` says; it leaves the caller and the ready queues
 pub record Leaves (n : ℕ) (t : Table) (r : Request) (u : Turn) : Type 0 where
@@ -83,10 +84,11 @@ module _ {n : ℕ} {t : Table} (good : Good n t) (r : Request) where
   rests = aside refl refl (λ _ _. refl)
 
   -- of a kind that concerns no other
-  plain : (k : ℕ) → r .kind ≡ k → k ≢ sendKind → k ≢ receiveKind → k ≢ replyKind → k ≢ eventKind
+  plain : (k : ℕ) → r .kind ≡ k → k ≢ exitKind → k ≢ sendKind → k ≢ receiveKind → k ≢ replyKind → k ≢ eventKind
       → (s : ℕ) → othersLeft t r s ≡ taskAt t s
-  plain k kind six seven eight ten s =
+  plain k kind five six seven eight ten s =
       left-aside t r s (λ f. six (sym kind ∙ f .kind)) (λ f. seven (sym kind ∙ f .kind)) (λ f. eight (sym kind ∙ f .kind)) (λ f. ten (sym kind ∙ f .kind))
+      (λ f. five (sym kind ∙ f .kind))
 
   module _ (runs : a < slots t) where
     active : codeAt t a ≡ 1
@@ -97,7 +99,7 @@ module _ {n : ℕ} {t : Table} (good : Good n t) (r : Request) where
     create-leaves kind p =
         let f = good .rules in
         let u = usedSlots t in
-        let same = plain createKind kind (λ e. omega arith) (λ e. omega arith) (λ e. omega arith) (λ e. omega arith) in
+        let same = plain createKind kind (λ e. omega arith) (λ e. omega arith) (λ e. omega arith) (λ e. omega arith) (λ e. omega arith) in
         chosen (Leaves n t r) (leb priorities p) (λ _. rests (λ s _. same s))
         (λ _. chosen (Leaves n t r) (leb (slots t) u) (λ _. rests (λ s _. same s))
         (λ room.
@@ -122,7 +124,7 @@ module _ {n : ℕ} {t : Table} (good : Good n t) (r : Request) where
         let p = buffer (r .arg3) (r .arg4) in
         let x = slotNamed g in
         let unsent : (s : ℕ) → (Sent t r s → ⊥) → othersLeft t r s ≡ taskAt t s =
-        λ s never. left-aside t r s never (λ f. omega arith) (λ f. omega arith) (λ f. omega arith) in
+        λ s never. left-aside t r s never (λ f. omega arith) (λ f. omega arith) (λ f. omega arith) (λ f. omega arith) in
         let slot : (s : ℕ) → Sent t r s → x ≡ s = λ s f. ap slotNamed (f .named) ∙ slot-of-mark s in
         chosen (Leaves n t r) (not (alive t g))
         (λ dead. rests
@@ -164,7 +166,7 @@ module _ {n : ℕ} {t : Table} (good : Good n t) (r : Request) where
         let q = queueAt t k in
         let x = slotOf (placeAt q 0) in
         let spared : (s : ℕ) → (Received t r s → ⊥) → othersLeft t r s ≡ taskAt t s =
-        λ s never. left-aside t r s (λ f. omega arith) never (λ f. omega arith) (λ f. omega arith) in
+        λ s never. left-aside t r s (λ f. omega arith) never (λ f. omega arith) (λ f. omega arith) (λ f. omega arith) in
         chosen (Leaves n t r) (not (goodBuffer b))
         (λ bad. rests (λ s _. spared s (λ f. clash (f .message) (not-true (goodBuffer b) bad))))
         (λ fit. chosen (Leaves n t r) (eqb (q .len) 0)
@@ -201,7 +203,7 @@ module _ {n : ℕ} {t : Table} (good : Good n t) (r : Request) where
         let b = buffer (r .arg1) (r .arg2) in
         let x = slotNamed g in
         let unanswered : (s : ℕ) → (Replied t r s → ⊥) → othersLeft t r s ≡ taskAt t s =
-        λ s never. left-aside t r s (λ f. omega arith) (λ f. omega arith) never (λ f. omega arith) in
+        λ s never. left-aside t r s (λ f. omega arith) (λ f. omega arith) never (λ f. omega arith) (λ f. omega arith) in
         let slot : (s : ℕ) → Replied t r s → x ≡ s = λ s f. ap slotNamed (f .named) ∙ slot-of-mark s in
         chosen (Leaves n t r) (not (alive t g))
         (λ dead. rests
@@ -232,7 +234,7 @@ module _ {n : ℕ} {t : Table} (good : Good n t) (r : Request) where
     await-leaves : r .kind ≡ awaitEventKind → (e : ℕ) → Leaves n t r (awaitEvent t a e)
     unfolding awaitEvent queued
     await-leaves kind e =
-        let same = plain awaitEventKind kind (λ e. omega arith) (λ e. omega arith) (λ e. omega arith) (λ e. omega arith) in
+        let same = plain awaitEventKind kind (λ e. omega arith) (λ e. omega arith) (λ e. omega arith) (λ e. omega arith) (λ e. omega arith) in
         chosen (Leaves n t r) (leb events e) (λ _. rests (λ s _. same s))
         (λ _. chosen (Leaves n t r) (ltb 0 (queueAt t (eventQueue e) .len)) (λ _. rests (λ s _. same s))
         (λ _. aside refl refl (λ p low. getD-set-other (t .queues) (eventQueue e) (readyQueue p) _ noRow (λ e. omega arith)) (λ s _. same s)))
@@ -250,47 +252,81 @@ module _ {n : ℕ} {t : Table} (good : Good n t) (r : Request) where
   unfolding queueOf
   event-waits s f = rw (f .state, f .event)
 
-  event-leaves : r .kind ≡ eventKind → r .arg0 < events → Leaves n t r (event t (r .arg0) (r .arg1))
-  unfolding event
-  event-leaves kind low =
+  -- who stands in the send queue of a slot sends to it
+  waits-sender : (c s : ℕ) → c < n → s < usedSlots t → standing n (taskAt t s) ≡ sendQueue c
+      → (codeAt t s ≡ 4) × (awaited (taskAt t s .state) ≡ tidOf c)
+  waits-sender c s h l stands =
+      let (code, named) = sender t (good .rules .tasks) c s h stands in
+      (code, omega (arith, known-state good s l .target (rw code)))
+
+  -- and the other way round
+  sender-waits : (c s : ℕ) → codeAt t s ≡ 4 → awaited (taskAt t s .state) ≡ tidOf c → standing n (taskAt t s) ≡ sendQueue c
+  unfolding queueOf
+  sender-waits c s code named = rw (code, named, slot-of-mark c)
+
+  -- a queue that is no ready queue is woken whole: who stands in it is told o, and nobody else is concerned
+  row-leaves : (k : ℕ) {o v : Result} {st : State} → priorities ≤ k → k < queuesFor n
+      → ((s : ℕ) → s < usedSlots t → standing n (taskAt t s) ≡ k → othersLeft t r s ≡ taskAs Ready o (taskAt t s))
+      → ((s : ℕ) → standing n (taskAt t s) ≢ k → othersLeft t r s ≡ taskAt t s)
+      → let q = queueAt t k in
+      Leaves n t r (record { table = withQueue t k (emptied q); woken = q; told = o; state = st; result = v; effect = Keep })
+  row-leaves k least most concerned others =
       let f = good .rules in
-      let k = eventQueue (r .arg0) in
-      let within : k < length (t .queues) = omega (arith, f .lined .shaped .count) in
       let out : (s : ℕ) → eqb (standing n (taskAt t s)) k ≡ true → s ≢ a =
       λ s e same.
-      let l = stander-used f s k (eqb-true _ k e) (omega arith) in
+      let l = stander-used f s k (eqb-true _ k e) most in
       let runs : a < slots t = omega (arith, f .tasks .fits, f .size) in
       let nowhere = free n (taskAt t a) (rw (active runs)) .nowhere in
       omega (arith, eqb-true _ k (rw same at e)) in
       record {
         wakes = λ s. eqb (standing n (taskAt t s)) k;
-        row = f .lined .holds .row k within;
+        row = f .lined .holds .row k (omega (arith, f .lined .shaped .count));
         out = out;
         size = refl;
         queues = λ p h. getD-set-other (t .queues) k (readyQueue p) _ noRow (λ e. omega arith);
         own = refl;
         others = λ s l _. by-test (eqb (standing n (taskAt t s)) k)
-            (λ own.
-            let (code, awaits) = waits-event (r .arg0) s low l (eqb-true _ k own) in
-            rw own (sym (left-signalled t r s (record { kind = kind; state = code; event = awaits }))))
-            (λ none. rw none
-            (sym (left-aside t r s (λ g. omega arith) (λ g. omega arith) (λ g. omega arith) (λ g. eqb-false _ k none (event-waits s g)))));
+            (λ own. rw own (sym (concerned s l (eqb-true _ k own))))
+            (λ none. rw none (sym (others s (eqb-false _ k none))));
       }
 
+  event-leaves : r .kind ≡ eventKind → r .arg0 < events → Leaves n t r (event t (r .arg0) (r .arg1))
+  unfolding event
+  event-leaves kind low =
+      row-leaves (eventQueue (r .arg0)) (omega arith) (omega arith)
+      (λ s l stands.
+      let (code, awaits) = waits-event (r .arg0) s low l stands in
+      left-signalled t r s (record { kind = kind; state = code; event = awaits }))
+      (λ s never.
+      left-aside t r s (λ g. omega arith) (λ g. omega arith) (λ g. omega arith) (λ g. never (event-waits s g)) (λ g. omega arith))
+
+  exit-leaves : r .kind ≡ exitKind → a < slots t → Leaves n t r (exit t a)
+  unfolding exit
+  exit-leaves kind runs =
+      let own : activeTid t ≡ tidOf a = rw (lt-ltb a (slots t) runs) in
+      let below : a < n = omega (arith, good .rules .size) in
+      row-leaves (sendQueue a) (omega arith) (omega arith)
+      (λ s l stands.
+      let (code, named) = waits-sender a s below l stands in
+      left-turned t r s (record { kind = kind; state = code; target = named ∙ sym own }))
+      (λ s never.
+      left-aside t r s (λ g. omega arith) (λ g. omega arith) (λ g. omega arith) (λ g. omega arith)
+      (λ g. never (sender-waits a s (g .state) (g .target ∙ own))))
+
   pub turn-leaves : Enters (slots t) a r → Leaves n t r (turnOf t a r)
-  unfolding turnOf myTid myParentTid yield exit
+  unfolding turnOf myTid myParentTid yield
   turn-leaves enters =
       let k = r .kind in
       let known = fine (slots t) a r (enters .0) in
       let runs : (j : ℕ) → eqb j eventKind ≡ false → eqb k j ≡ true → a < slots t =
       λ j other e. known .caller (λ ten. omega (arith, eqb-false j eventKind other, eqb-true k j e)) in
-      let same : (j : ℕ) → j < sendKind → eqb k j ≡ true → (s : ℕ) → othersLeft t r s ≡ taskAt t s =
-      λ j low e. plain j (eqb-true k j e) (λ z. omega arith) (λ z. omega arith) (λ z. omega arith) (λ z. omega arith) in
+      let same : (j : ℕ) → j < exitKind → eqb k j ≡ true → (s : ℕ) → othersLeft t r s ≡ taskAt t s =
+      λ j low e. plain j (eqb-true k j e) (λ z. omega arith) (λ z. omega arith) (λ z. omega arith) (λ z. omega arith) (λ z. omega arith) in
       chosen (Leaves n t r) (eqb k createKind) (λ e. create-leaves (runs createKind refl e) (eqb-true k createKind e) (r .arg0))
       (λ n₁. chosen (Leaves n t r) (eqb k myTidKind) (λ e. rests (λ s _. same myTidKind (omega arith) e s))
       (λ n₂. chosen (Leaves n t r) (eqb k myParentTidKind) (λ e. rests (λ s _. same myParentTidKind (omega arith) e s))
       (λ n₃. chosen (Leaves n t r) (eqb k yieldKind) (λ e. rests (λ s _. same yieldKind (omega arith) e s))
-      (λ n₄. chosen (Leaves n t r) (eqb k exitKind) (λ e. rests (λ s _. same exitKind (omega arith) e s))
+      (λ n₄. chosen (Leaves n t r) (eqb k exitKind) (λ e. exit-leaves (eqb-true k exitKind e) (runs exitKind refl e))
       (λ n₅. chosen (Leaves n t r) (eqb k sendKind) (λ e. send-leaves (runs sendKind refl e) (eqb-true k sendKind e))
       (λ n₆. chosen (Leaves n t r) (eqb k receiveKind) (λ e. receive-leaves (runs receiveKind refl e) (eqb-true k receiveKind e))
       (λ n₇. chosen (Leaves n t r) (eqb k replyKind) (λ e. reply-leaves (runs replyKind refl e) (eqb-true k replyKind e))

@@ -99,7 +99,7 @@ module _ (t : Table) (q : Queue) (o : Result) (s : ℕ) where
 
   module _ (below : s < slots t) where
     -- one who is woken keeps its priority and its parent
-    woken-as : (i : ℕ) → taskAs Ready o (taskAt (wokenUpTo t q o i) s) ≡ taskAs Ready o (taskAt t s)
+    pub woken-as : (i : ℕ) → taskAs Ready o (taskAt (wokenUpTo t q o i) s) ≡ taskAs Ready o (taskAt t s)
     unfolding wokenUpTo
     woken-as zero = refl
     woken-as (suc i) =

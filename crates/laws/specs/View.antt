@@ -14,14 +14,14 @@ use Rattle.tid.specs.Sizes.{areaBytes}
 use Rattle.tid.specs.Tid.{markOf, tidOf}
 use Rattle.task.specs.declared.task.Buffer.{Buffer}
 use Rattle.task.specs.declared.task.Result.{Result}
-use Rattle.task.specs.declared.task.Result.the-variants.{Nothing, Value}
+use Rattle.task.specs.declared.task.Result.the-variants.{Nothing, Value, Fault}
 use Rattle.task.specs.declared.task.State.the-variants.{Active, Ready, SendBlocked, ReplyBlocked}
 use Rattle.task.specs.declared.task.Task.{Task}
-use Rattle.task.specs.Task.{firstNegative, goodBuffer, messageOf, replyOf, awaited, isSendBlocked, isReplyBlocked, isEventBlocked, taskAs}
+use Rattle.task.specs.Task.{firstNegative, goodBuffer, messageOf, replyOf, awaited, isSendBlocked, isReceiveBlocked, isReplyBlocked, isEventBlocked, taskAs}
 use Rattle.kernel.specs.declared.table.Table.{Table}
 use Rattle.kernel.specs.declared.table.Request.{Request}
 use Rattle.kernel.specs.declared.table.Decision.{Decision}
-use Rattle.kernel.specs.Numbers.{accepted, sendKind, receiveKind, replyKind, eventKind, ownWriteKind}
+use Rattle.kernel.specs.Numbers.{accepted, exitKind, sendKind, receiveKind, replyKind, eventKind, ownWriteKind}
 use Rattle.kernel.specs.Table.{slots, taskAt, queueAt, activeSlot, usedSlots}
 use Rattle.kernel.specs.Kinds.{placeIn, signal}
 use Rattle.kernel.specs.Refusal.{refusalOf}
@@ -59,8 +59,16 @@ isRepliedTo t r s =
 abbrev pub isSignalled : Table → Request → ℕ → Bool
 isSignalled t r s = eqb (r .kind) eventKind && isEventBlocked (taskAt t s .state) && eqb (awaited (taskAt t s .state)) (r .arg0)
 
--- of another task than the caller: it is woken with what it waited for, or its message is received and it waits for the reply, or it is
--- not concerned
+-- whether it sends to a tid, and its message is not yet received
+abbrev pub waitsAt : Table → ℕ → ℕ → Bool
+waitsAt t g s = isReceiveBlocked (taskAt t s .state) && eqb (awaited (taskAt t s .state)) g
+
+-- the task that it sends to exits
+abbrev pub isTurnedAway : Table → Request → ℕ → Bool
+isTurnedAway t r s = eqb (r .kind) exitKind && waitsAt t (activeTid t) s
+
+-- of another task than the caller: it is woken with what it waited for, or its message is received and it waits for the reply, or its
+-- message will not be received any more, or it is not concerned
 unfoldable pub othersLeft : Table → Request → ℕ → Task
 othersLeft t r s =
     let x = taskAt t s in
@@ -68,7 +76,8 @@ othersLeft t r s =
     (choose (isReceivedFrom t r s) (taskAs (ReplyBlocked (replyOf (x .state))) Nothing x)
     (choose (isRepliedTo t r s) (taskAs Ready (Value 0 (r .arg2)) x)
     (choose (isSignalled t r s) (taskAs Ready (signal (r .arg1)) x)
-    x)))
+    (choose (isTurnedAway t r s) (taskAs Ready (Fault 2) x)
+    x))))
 
 -- the caller, or the one who is interrupted, is left as its turn says
 unfoldable pub left : Table → Request → ℕ → Task

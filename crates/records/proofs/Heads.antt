@@ -4,15 +4,15 @@ use mathlib.Core.Path.{_≡_, refl, sym, ap, _∙_}
 use mathlib.Core.Logic.{_≢_}
 use mathlib.Core.Bool.{true, _&&_}
 use mathlib.Core.List.{List}
-use native.Mathlib.Nat.{add-zero, zero-add, add-suc, le-refl}
+use native.Mathlib.Nat.{add-zero, add-suc, le-refl}
 use native.Mathlib.Omega.{arith}
 use native.Mathlib.Decide.{ℕ-discrete}
-use lib.Seq.{getD-set-other, set-getD}
+use lib.Seq.{getD-set-other}
 use lib.Dec.{eqb}
 use borrow.Author.Tests.{eqb-true, eq-eqb, ne-eqb}
-use Rattle.tid.specs.Sizes.{priorities, events}
+use Rattle.tid.specs.Sizes.{priorities}
 use Rattle.tid.specs.Tid.{markOf, slotOf, tidOf}
-use Rattle.queue.specs.Numbering.{readyQueue, eventQueue, sendQueue}
+use Rattle.queue.specs.Numbering.{readyQueue, sendQueue}
 use Rattle.queue.specs.Row.{placeAt, placeOf}
 use Rattle.queue.specs.Facts.{RowFacts}
 use Rattle.queue.proofs.Below.{by-test, both-true, true-both}
@@ -30,7 +30,7 @@ use Rattle.records.specs.Records.{queuesAt, upAt, closedUp, leadsAt, hea
 use Rattle.records.specs.Stage.{Stage}
 use Rattle.image.proofs.Bytes.{byte-in}
 use Rattle.records.proofs.Records.{closed-later}
-use Rattle.records.proofs.Told.{Told, ready-told, waiter-told, sender-told}
+use Rattle.records.proofs.Told.{Told, ready-told, sender-told}
 
 module _ (code at key : ℕ) where
   -- the only one that leads is found
@@ -95,25 +95,8 @@ module _ {n used a : ℕ} {t : Table} {b count : List ℕ} (g : Stage n used a n
           ne-eqb (standing n (taskAt t i)) k (λ e. omega (arith, stander-used (g .rules) i k e (q .within))),
         )))
 
-    -- a queue of one closes up as it is
-    closed-single : queueAt t k .len ≤ 1 → closedUp code at key b used ≡ b
-    unfolding closedUp
-    closed-single few =
-        rw zero-add at (closed-rest code at key b 0 used (λ i _ l.
-        let c = closedUp code at key b i in
-        let below : i < n = omega (arith, g .rules .tasks .fits) in
-        by-test (queuesAt code at key c i)
-        (λ e.
-        let own : standing n (taskAt t i) ≡ k = eqb-true _ k (sym (stands-told q c i below (reached i below)) ∙ e) in
-        let (first, _) = slot-place row i below (eq-eqb _ k own) in
-        let zero : byteAt c i atPlace ≡ 0 =
-        place-told q c i below (reached i below) ∙ stored-in n t i (g .rules .size) own (q .within) ∙ omega arith in
-        let same : byteAt c i atPlace - 1 ≡ byteAt c i atPlace = omega arith in
-        rw (e, same) (set-getD c (i * recordLength + atPlace) 0))
-        (λ e. rw e)))
-
     -- the head is the only one in the queue whose place is 0
-    headed : (none : ℕ) → 0 < queueAt t k .len → headOf code at key none b used ≡ slotOf (placeAt (queueAt t k) 0)
+    pub headed : (none : ℕ) → 0 < queueAt t k .len → headOf code at key none b used ≡ slotOf (placeAt (queueAt t k) 0)
     headed none some =
         let s = slotOf (placeAt (queueAt t k) 0) in
         let own = row-head (g .rules) k (q .within) some in
@@ -130,14 +113,6 @@ module _ {n used a : ℕ} {t : Table} {b count : List ℕ} (g : Stage n used a n
         let (_, stands) = slot-place row i (below i m) mine in
         let zero = sym (stored-in n t i (g .rules .size) (eqb-true _ k mine) (q .within)) ∙ eqb-true _ 0 first in
         omega (arith, ap (placeAt (queueAt t k)) (sym zero) ∙ stands))
-
-  -- the one who waits for an event is found, and finding it changes no byte
-  pub waiter-headed : (e none : ℕ) → e < events → 0 < queueAt t (eventQueue e) .len
-      → headOf 6 atAwaited e none b used ≡ slotOf (placeAt (queueAt t (eventQueue e)) 0)
-  waiter-headed e none low some = headed (waiter-told (g .rules) e low) none some
-
-  pub waiter-stays : (e : ℕ) → e < events → closedUp 6 atAwaited e b used ≡ b
-  waiter-stays e low = closed-single (waiter-told (g .rules) e low) (g .rules .single e low)
 
   -- the head of a send queue is found
   pub sender-headed : (c none : ℕ) → c < n → 0 < queueAt t (sendQueue c) .len

@@ -5,8 +5,9 @@ pub mod Rows
 pub mod Changes
 pub mod Joins
 pub mod Replaces
-pub mod Vacates
 pub mod Told
 pub mod Heads
 pub mod Leaves
+pub mod Wakes
 pub mod Fresh
+pub mod Targets

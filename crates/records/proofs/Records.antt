@@ -51,6 +51,13 @@ module _ (b : List ℕ) (s : ℕ) (r : List ℕ) (fits : s * recordLength + reco
       ∙ drop-at (take (s * recordLength) b) (take recordLength r) (s * recordLength) (length-take-le (s * recordLength) b (omega arith))
       ∙ take-all recordLength r (omega arith)
 
+  -- the bytes before it stay
+  front : take (s * recordLength) (withRecord b s r) ≡ take (s * recordLength) b
+  front =
+      take-append-le (s * recordLength) (take (s * recordLength) b ++ take recordLength r) (drop (s * recordLength + recordLength) b)
+      (rw (length-append, length-take-le (s * recordLength) b (omega arith)) (omega arith))
+      ∙ take-at (take (s * recordLength) b) (take recordLength r) (s * recordLength) (length-take-le (s * recordLength) b (omega arith))
+
   pub paste-there : (i : ℕ) → i ≢ s → recordAt recordLength (withRecord b s r) i ≡ recordAt recordLength b i
   paste-there i ne = elim (decLt i s) [
     | yes l ↦
@@ -67,12 +74,10 @@ module _ (b : List ℕ) (s : ℕ) (r : List ℕ) (fits : s * recordLength + reco
         ∙ drop-drop (i * recordLength - (s * recordLength + recordLength)) (s * recordLength + recordLength) b
         ∙ ap (λ (k : ℕ). drop k b) at)
   ]
-    where
-      front : take (s * recordLength) (withRecord b s r) ≡ take (s * recordLength) b
-      front =
-          take-append-le (s * recordLength) (take (s * recordLength) b ++ take recordLength r) (drop (s * recordLength + recordLength) b)
-          (rw (length-append, length-take-le (s * recordLength) b (omega arith)) (omega arith))
-          ∙ take-at (take (s * recordLength) b) (take recordLength r) (s * recordLength) (length-take-le (s * recordLength) b (omega arith))
+
+  -- written again, the first writing leaves no trace
+  pub paste-again : (r′ : List ℕ) → withRecord (withRecord b s r) s r′ ≡ withRecord b s r′
+  paste-again r′ = rw (front, drop-paste b (s * recordLength) r recordLength (omega arith) (omega arith))
 
 -- record s is r, and every other as it was
 pub written : (n : ℕ) (f : ℕ → List ℕ) (b : List ℕ) → Records n f b → (s : ℕ) (r : List ℕ) → s < n → length r ≡ recordLength

@@ -21,7 +21,7 @@ use Rattle.queue.proofs.Places.{place-first, place-holds}
 use Rattle.task.specs.declared.task.Result.the-variants.{Nothing}
 use Rattle.task.specs.declared.task.State.{State}
 use Rattle.task.specs.declared.task.Task.{Task}
-use Rattle.task.specs.Task.{noTask, isUsed, isActive, isSendBlocked, taskAs}
+use Rattle.task.specs.Task.{noTask, isUsed, isActive, isQuiet, taskAs}
 use Rattle.task.proofs.Tests.{clash}
 use Rattle.task.proofs.Stands.{stands-nowhere, stands-ready}
 use Rattle.kernel.specs.declared.table.Table.{Table}
@@ -85,7 +85,7 @@ module _ {n used a : ℕ} {t : Table} {b count : List ℕ} (g : Stage n used a n
 -- The last move of the active task, that of slot c, where it stops and stands in no queue: then none is active.
 module _ {n used c : ℕ} {t : Table} {b count : List ℕ} (g : Stage n used c nobody t b count) (runs : codeAt t c ≡ 1) where
   pub halts-stage : (st : State) → isFree st ≡ true → isActive st ≡ false → goodState used c st ≡ true
-      → (isSendBlocked st ≡ true → queueAt t (sendQueue c) .len ≡ 0)
+      → (isQuiet st ≡ true → queueAt t (sendQueue c) .len ≡ 0)
       → Stage n used n nobody (leftAs t c st Nothing) (leftBytes b c st Nothing 0) count
   halts-stage st stays still good quiet =
       let f = g .rules in

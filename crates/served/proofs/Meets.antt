@@ -67,6 +67,7 @@ module _ {n : ℕ} {t : Table} (good : Good n t) (r : Request) (s : ℕ) (other 
   not-concerned least most unsent =
       left-other t r s other
       ∙ left-aside t r s unsent (λ f. omega (arith, received-state good (enters t r entry) f)) (λ f. omega (arith, f .state)) (λ f. omega (arith, f .state))
+      (λ f. omega (arith, f .state))
 
   pub others-meet : {size : ℕ} {p : Phase} → Waits size (taskAt t s) p → Meets size t r s p p
   others-meet {size} {p} w = go w

@@ -1,28 +1,24 @@
--- `event`: somebody waits for it, or nobody does.
-use mathlib.Core.Logic.{⊎-elim}
+-- `event`: all who wait for it are woken before the caller goes on.
 use native.Mathlib.Omega.{arith}
 use borrow.Author.Needs.{needs}
-use Rattle.inplace.proofs.Events.{event-missed, event-heard}
+use Rattle.inplace.proofs.Events.{event-wakes, event-ends}
 use Rattle.inplace.proofs.kinds.event.Statement.{statement}
 use Rattle.inplace.proofs.kinds.event.Tie as tie
 
-same-length : tie.Need-same-length
-same-length c = ⊎-elim (λ w. let (_, _, _, kept, _, image, _) = w in rw image (kept .given)) (λ w. rw (w .1)) (c .before .if1 .came)
+wake-all-requires : tie.Need-wake-all-requires
+wake-all-requires c κs =
+    let start = c .before .before .before .before .before in
+    let (low, begins) = start .pre in
+    rw (c .signal .ensures) (event-wakes begins (omega arith) (start .args .number) (start .args .word) low)
 
 returns : tie.Need-returns
 returns c =
-    let start = c .before .before .before .before in
+    let woke = c .before .before .before in
+    let told = woke .before in
+    let start = told .before .before .before .before .before in
     let (low, begins) = start .pre in
-    let a = start .args in
-    ⊎-elim
-    (λ w.
-    let (heard, _, closed, _, _, image, woken) = w in
-    rw (c .signal .ensures, woken, image)
-    (event-heard begins (omega arith) (a .number) (a .word) low (heard .taken) (closed .result) (closed .last .0) (closed .ensures .head) (closed .ensures .image)))
-    (λ w.
-    let (missed, image, woken) = w in
-    rw (c .signal .ensures, woken, image) (event-missed begins (omega arith) (a .number) (a .word) low (missed .left)))
-    (c .before .if1 .came)
+    rw (c .resumes .ensures, woke .wake-all .ensures .0, woke .wake-all .ensures .1, told .signal .ensures)
+    (event-ends begins (omega arith) (start .args .number) (start .args .word) low)
 
 pub event-spec : {M : Type 1} → statement M
 event-spec =
@@ -32,6 +28,7 @@ event-spec =
     (λ c. search needs)
     (λ c. search needs)
     (λ c κs. search needs)
+    wake-all-requires
     (λ c κs. search needs)
-    same-length
+    (λ c. search needs)
     returns)

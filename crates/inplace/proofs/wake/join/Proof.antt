@@ -1,4 +1,4 @@
--- `inplace::end::join` meets its contract: its place is the number of those who stand there.
+-- `inplace::wake::join` meets its contract: its place is the number of those who stand there.
 use Prim.Native.Nat.{ℕ, _+_}
 use mathlib.Core.Path.{ap, _∙_}
 use native.Mathlib.Omega.{arith}
@@ -6,8 +6,8 @@ use lib.ListN.{getD, set}
 use borrow.Author.Needs.{needs}
 use Rattle.task.specs.declared.task.State.the-variants.{Ready}
 use Rattle.records.specs.Stage.{leftBytes, joinedBytes, joinedCount}
-use Rattle.inplace.proofs.end.join.Statement.{statement}
-use Rattle.inplace.proofs.end.join.Tie as tie
+use Rattle.inplace.proofs.wake.join.Statement.{statement}
+use Rattle.inplace.proofs.wake.join.Tie as tie
 
 add-count : tie.Need-add-count
 add-count c =
