@@ -27,6 +27,11 @@ static inline bool chance(uint64_t *seed, uint32_t percent)
     return below(seed, 100) < percent;
 }
 
+static inline bool is(const struct table *k, uint32_t tid, enum state state)
+{
+    return k->task[tid].state == state;
+}
+
 /* A kernel that is followed, and the habits of its tasks. */
 struct world {
     struct table table;

@@ -57,11 +57,6 @@ static uint32_t some_task(struct world *w, enum state state)
     return 0;
 }
 
-static bool is(const struct table *k, uint32_t tid, enum state state)
-{
-    return k->task[tid].state == state;
-}
-
 static bool exists(const struct table *k, uint32_t tid)
 {
     return !is(k, tid, STATE_UNUSED) && !is(k, tid, STATE_EXITED);
