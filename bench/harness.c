@@ -44,6 +44,8 @@ static void peer_entry_step(const uint8_t *record, uint8_t *answer)
 
 /* In memory a host has requests and answers as they are: those of the plain step are laid out like the records, on a
  * little-endian machine. */
+_Static_assert(sizeof(struct plain_answer) == ANSWER_BYTES && sizeof(struct plain_answer) == BREDONYCH_ANSWER, "all answers have one length");
+
 static void plain_first(void) { plain_start(PRIORITY); }
 
 static void plain_one(const uint8_t *record, uint8_t *answer)
@@ -65,7 +67,8 @@ static void memory_step(const uint8_t *record, uint8_t *answer)
     struct request q;
     memcpy(&q, record, sizeof q);
     struct answer a = table_step(&table, areas, &q);
-    memcpy(answer, &a, sizeof a);
+    const uint32_t words[] = {a.verdict, a.next, a.result.kind, (uint32_t)a.result.number, a.result.from, a.result.cut};
+    memcpy(answer, words, sizeof words); /* not the answer itself, in which bytes without a meaning may stand behind a mark of one byte */
 }
 
 static void memory_image(void) { table_write(&table, image); }

@@ -8,12 +8,17 @@ enum { CREATE = 1, MY_TID, MY_PARENT_TID, YIELD, EXIT, SEND, RECEIVE, REPLY, AWA
 enum { NOTHING, VALUE, FAULT };
 
 struct result {
-    uint8_t kind, from;
+    uint8_t kind, from, cut;
     int32_t number;
 };
 
 struct buffer {
     uint16_t offset, length;
+};
+
+struct copied {
+    uint16_t count;
+    uint8_t cut;
 };
 
 struct queue {
@@ -51,26 +56,32 @@ static struct task *leave(struct queue *q)
     return t;
 }
 
-static void wake(struct task *t, uint8_t kind, int32_t number, uint8_t from)
+static void wake_with(struct task *t, struct result told)
 {
     t->state = READY;
-    t->result = (struct result){kind, from, number};
+    t->result = told;
     join(&ready[t->priority], t);
     filled |= UINT32_C(1) << t->priority;
+}
+
+/* With what no delivery gave: from nobody, and not cut. */
+static void wake(struct task *t, uint8_t kind, int32_t number)
+{
+    wake_with(t, (struct result){kind, 0, 0, number});
 }
 
 static struct plain_answer dispatch(void)
 {
     active = NULL;
     if (!filled)
-        return (struct plain_answer){0, 0, NOTHING, 0, 0};
+        return (struct plain_answer){0, 0, NOTHING, 0, 0, 0};
     unsigned p = (unsigned)__builtin_ctz(filled);
     struct task *t = leave(&ready[p]);
     if (!ready[p].head)
         filled &= filled - 1;
     active = t;
     t->state = ACTIVE;
-    return (struct plain_answer){0, t->tid, t->result.kind, t->result.number, t->result.from};
+    return (struct plain_answer){0, t->tid, t->result.kind, t->result.number, t->result.from, t->result.cut};
 }
 
 static int good(int32_t offset, int32_t length)
@@ -83,11 +94,12 @@ static struct buffer buffer(int32_t offset, int32_t length)
     return (struct buffer){(uint16_t)offset, (uint16_t)length};
 }
 
-static int32_t deliver(uint8_t *areas, uint8_t from, struct buffer source, uint8_t to, struct buffer room)
+static struct copied deliver(uint8_t *areas, uint8_t from, struct buffer source, uint8_t to, struct buffer room)
 {
-    uint16_t count = source.length < room.length ? source.length : room.length;
+    uint8_t cut = room.length < source.length;
+    uint16_t count = cut ? room.length : source.length;
     memcpy(areas + (to - 1) * PLAIN_AREA + room.offset, areas + (from - 1) * PLAIN_AREA + source.offset, count);
-    return count;
+    return (struct copied){count, cut};
 }
 
 static struct task *existing(int32_t tid)
@@ -101,7 +113,7 @@ static void make(uint8_t priority, uint8_t parent)
     t->tid = used;
     t->priority = priority;
     t->parent = parent;
-    wake(t, NOTHING, 0, 0);
+    wake(t, NOTHING, 0);
 }
 
 void plain_start(uint8_t priority)
@@ -127,9 +139,9 @@ static int32_t send(struct task *me, const int32_t *arg, uint8_t *areas)
     me->message = buffer(arg[1], arg[2]);
     me->reply = buffer(arg[3], arg[4]);
     if (to->state == SEND_BLOCKED) {
-        deliver(areas, me->tid, me->message, to->tid, to->message);
+        struct copied copied = deliver(areas, me->tid, me->message, to->tid, to->message);
         me->state = REPLY_BLOCKED;
-        wake(to, VALUE, me->message.length, me->tid);
+        wake_with(to, (struct result){VALUE, me->tid, copied.cut, me->message.length});
     } else {
         me->state = RECEIVE_BLOCKED;
         me->awaited = to->tid;
@@ -141,7 +153,7 @@ static int32_t send(struct task *me, const int32_t *arg, uint8_t *areas)
 static void receive(struct task *me, const int32_t *arg, uint8_t *areas)
 {
     if (!good(arg[0], arg[1])) {
-        wake(me, FAULT, -3, 0);
+        wake(me, FAULT, -3);
         return;
     }
     struct buffer room = buffer(arg[0], arg[1]);
@@ -151,9 +163,9 @@ static void receive(struct task *me, const int32_t *arg, uint8_t *areas)
         return;
     }
     struct task *sender = leave(&me->senders);
-    deliver(areas, sender->tid, sender->message, me->tid, room);
+    struct copied copied = deliver(areas, sender->tid, sender->message, me->tid, room);
     sender->state = REPLY_BLOCKED;
-    wake(me, VALUE, sender->message.length, sender->tid);
+    wake_with(me, (struct result){VALUE, sender->tid, copied.cut, sender->message.length});
 }
 
 static void reply(struct task *me, const int32_t *arg, uint8_t *areas)
@@ -161,39 +173,39 @@ static void reply(struct task *me, const int32_t *arg, uint8_t *areas)
     struct task *sender = existing(arg[0]);
     int32_t fault = !sender ? -1 : sender->state != REPLY_BLOCKED ? -2 : !good(arg[1], arg[2]) ? -3 : 0;
     if (fault) {
-        wake(me, FAULT, fault, 0);
+        wake(me, FAULT, fault);
         return;
     }
-    int32_t count = deliver(areas, me->tid, buffer(arg[1], arg[2]), sender->tid, sender->reply);
-    wake(sender, VALUE, arg[2], 0);
-    wake(me, VALUE, count, 0);
+    struct copied copied = deliver(areas, me->tid, buffer(arg[1], arg[2]), sender->tid, sender->reply);
+    wake_with(sender, (struct result){VALUE, 0, copied.cut, arg[2]});
+    wake_with(me, (struct result){VALUE, 0, copied.cut, copied.count});
 }
 
 static void create(struct task *me, int32_t priority)
 {
     if (priority < 0 || priority >= PLAIN_PRIORITIES) {
-        wake(me, FAULT, -1, 0);
+        wake(me, FAULT, -1);
     } else if (used == PLAIN_TASKS) {
-        wake(me, FAULT, -2, 0);
+        wake(me, FAULT, -2);
     } else {
         make((uint8_t)priority, me->tid);
-        wake(me, VALUE, used, 0);
+        wake(me, VALUE, used);
     }
 }
 
 static void leaves(struct task *me)
 {
     while (me->senders.head)
-        wake(leave(&me->senders), FAULT, -2, 0);
+        wake(leave(&me->senders), FAULT, -2);
     me->state = EXITED;
 }
 
 static void await(struct task *me, int32_t event)
 {
     if (event < 0 || event >= PLAIN_EVENTS) {
-        wake(me, FAULT, -1, 0);
+        wake(me, FAULT, -1);
     } else if (waiter[event]) {
-        wake(me, FAULT, -3, 0);
+        wake(me, FAULT, -3);
     } else {
         waiter[event] = me;
         me->awaited = (uint8_t)event;
@@ -206,10 +218,10 @@ static void happen(struct task *me, int32_t event, int32_t data)
     struct task *t = waiter[event];
     if (t) {
         waiter[event] = NULL;
-        wake(t, data >= 0 ? VALUE : FAULT, data >= 0 ? data : -2, 0);
+        wake(t, data >= 0 ? VALUE : FAULT, data >= 0 ? data : -2);
     }
     if (me)
-        wake(me, NOTHING, 0, 0);
+        wake(me, NOTHING, 0);
 }
 
 struct plain_answer plain_step(const struct plain_request *q, uint8_t *areas)
@@ -218,14 +230,14 @@ struct plain_answer plain_step(const struct plain_request *q, uint8_t *areas)
     int32_t fault;
     switch (q->kind) {
     case CREATE: create(me, q->arg[0]); break;
-    case MY_TID: wake(me, VALUE, me->tid, 0); break;
-    case MY_PARENT_TID: wake(me, VALUE, me->parent, 0); break;
-    case YIELD: wake(me, VALUE, 0, 0); break;
+    case MY_TID: wake(me, VALUE, me->tid); break;
+    case MY_PARENT_TID: wake(me, VALUE, me->parent); break;
+    case YIELD: wake(me, VALUE, 0); break;
     case EXIT: leaves(me); break;
     case SEND:
         fault = send(me, q->arg, areas);
         if (fault)
-            wake(me, FAULT, fault, 0);
+            wake(me, FAULT, fault);
         break;
     case RECEIVE: receive(me, q->arg, areas); break;
     case REPLY: reply(me, q->arg, areas); break;
@@ -233,7 +245,7 @@ struct plain_answer plain_step(const struct plain_request *q, uint8_t *areas)
     case EVENT: happen(me, q->arg[0], q->arg[1]); break;
     default:
         areas[(me->tid - 1) * PLAIN_AREA + q->arg[0]] = (uint8_t)q->arg[1];
-        return (struct plain_answer){0, me->tid, NOTHING, 0, 0};
+        return (struct plain_answer){0, me->tid, NOTHING, 0, 0, 0};
     }
     return dispatch();
 }
@@ -272,7 +284,7 @@ void plain_image(uint8_t *image)
         if (t->state == READY) {
             uint32_t word = (uint32_t)t->result.number;
             b[3] = place(&ready[t->priority], t);
-            b[5] = t->result.kind, b[14] = t->result.from;
+            b[5] = t->result.kind, b[14] = t->result.from, b[15] = t->result.cut;
             for (int i = 0; i < 4; i++)
                 b[16 + i] = (uint8_t)(word >> 8 * i);
         }

@@ -13,7 +13,7 @@ struct plain_request {
 struct plain_answer {
     uint32_t verdict, next, kind;
     int32_t number;
-    uint32_t from;
+    uint32_t from, cut;
 };
 
 void plain_start(uint8_t priority);

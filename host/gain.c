@@ -1,6 +1,7 @@
 /* A host with three tasks: a client, a gain task that answers what the gain is, and a panel that asks for it when a key is pressed.
  * The gain task exits after one reading. The panel, whose question it has not received, is told a fault and does not hang; the client
- * asks again and is told a fault and not a number, although the old number still lies in its memory. */
+ * asks again and is told a fault and not a number, although the old number still lies in its memory. Before it uses a reply the client
+ * asks whether that came whole. */
 #include <stdio.h>
 #include <stdlib.h>
 #include "bredonych.h"
@@ -13,7 +14,7 @@ static uint8_t image[BREDONYCH_IMAGE], areas[BREDONYCH_AREAS];
 struct told {
     uint32_t next, kind;
     int32_t word;
-    uint32_t from;
+    uint32_t from, cut;
 };
 
 static uint32_t word_at(const uint8_t *b)
@@ -33,8 +34,11 @@ static struct told ask(int32_t kind, int32_t a, int32_t b, int32_t c, int32_t d,
         printf("refused by %u\n", (unsigned)verdict);
         exit(1);
     }
-    return (struct told){word_at(answer + 4), word_at(answer + 8), (int32_t)word_at(answer + 12), word_at(answer + 16)};
+    return (struct told){word_at(answer + 4), word_at(answer + 8), (int32_t)word_at(answer + 12), word_at(answer + 16), word_at(answer + 20)};
 }
+
+/* Whether a reply came, and all of it: half a reading looks like a reading. */
+static int whole(struct told told) { return told.kind == BREDONYCH_VALUE && told.cut == BREDONYCH_WHOLE; }
 
 /* The client: makes the others, asks the gain task twice, and says what it learnt. */
 static struct told client(struct told told)
@@ -51,7 +55,11 @@ static struct told client(struct told told)
         printf("client: the panel is task %d; asks the gain task for the gain\n", (int)told.word);
         return ask(BREDONYCH_SEND, GAIN, ASKED, 1, READING, 1);
     case 3:
-        printf("client: a reply of %d byte: the gain is %d\n", (int)told.word, areas[READING]);
+        if (!whole(told)) {
+            printf("client: no whole reply, and so no reading\n");
+            exit(1);
+        }
+        printf("client: a reply of %d byte, and whole: the gain is %d\n", (int)told.word, areas[READING]);
         printf("client: asks again\n");
         return ask(BREDONYCH_SEND, GAIN, ASKED, 1, READING, 1);
     default:
@@ -114,7 +122,7 @@ int main(void)
     if (kernel_start(16, image, sizeof image) != BREDONYCH_ACCEPTED)
         return 1;
     printf("a kernel starts: task 1 is the client\n");
-    struct told told = {CLIENT, BREDONYCH_NOTHING, 0, 0};
+    struct told told = {CLIENT, BREDONYCH_NOTHING, 0, 0, BREDONYCH_WHOLE};
     while (told.next != 0)
         told = told.next == GAIN ? gain(told) : told.next == PANEL ? panel(told) : client(told);
     return 1;

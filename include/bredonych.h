@@ -22,7 +22,7 @@ enum bredonych_size {
     BREDONYCH_AREAS = 8192,   /* 32 areas */
     BREDONYCH_AREA = 256,     /* the bytes that a task owns */
     BREDONYCH_REQUEST = 24,   /* a kind and five arguments, four bytes each, signed */
-    BREDONYCH_ANSWER = 20,    /* verdict, next task, result kind, value or fault, from: four bytes each */
+    BREDONYCH_ANSWER = 24,    /* verdict, next task, result kind, value or fault, from, cut: four bytes each */
     BREDONYCH_TASKS = 32,     /* task ids are 1 to 32; 0 is no task */
     BREDONYCH_PRIORITIES = 32, /* 0 is the highest, 31 the lowest */
     BREDONYCH_EVENTS = 64     /* 0 to 63 */
@@ -56,7 +56,7 @@ enum bredonych_verdict {
     BREDONYCH_BAD_IMAGE = 7,    /* the image is not 640 bytes */
     BREDONYCH_BAD_EVENT = 8,    /* the event that happened is outside 0 to 63 */
     BREDONYCH_BAD_WRITE = 9,    /* own write: offset or value outside 0 to 255 */
-    BREDONYCH_BAD_ANSWER = 10   /* the answer is not 20 bytes; nothing is written to it */
+    BREDONYCH_BAD_ANSWER = 10   /* the answer is not 24 bytes; nothing is written to it */
 };
 
 /* What the next task is told, the third word of an answer. */
@@ -81,6 +81,17 @@ enum bredonych_fault {
     BREDONYCH_AWAIT_EVENT_NONE = -1, /* outside 0 to 63 */
     BREDONYCH_AWAIT_EVENT_TAKEN = -3, /* another task waits for it */
     BREDONYCH_EVENT_DATA = -2        /* told to the waiting task: the data was negative */
+};
+
+/* Whether a value was cut, the sixth word of an answer, at byte 20. A delivery is cut where the buffer that it goes to is shorter than
+ * what was sent. The value of a Receive says it of the message; those of a Send and of the Reply to it say it of the reply, so that a
+ * sender is not told whether its message was cut. With any other value, with a fault and with nothing the word is 0. A host that uses
+ * only what came whole asks for both, a value and its last word:
+ *
+ *     if (answer[8] == BREDONYCH_VALUE && answer[20] == BREDONYCH_WHOLE) */
+enum bredonych_cut {
+    BREDONYCH_WHOLE = 0,
+    BREDONYCH_CUT = 1 /* the buffer is full, and the end of what was sent is missing */
 };
 
 /* Starts a kernel: writes the image in which task 1, of this priority, is active, and answers 0. A priority outside 0 to 31

@@ -55,7 +55,7 @@ enum bredonych_clock_refusal {
  *    2 the bytes are no state                7 the state has another length
  *    3 no call of a client                   8 the event is outside 0 to 63
  *    4 the call is over: it asks nothing     9 the offset is above 240
- *    5 the request is not 24 bytes          10 the answer is not 20 bytes, or the outcome not 8
+ *    5 the request is not 24 bytes          10 the answer is not 24 bytes, or the outcome not 8
  * Where more than one holds, the one is given that is asked first: 5, 10, 1; 3, 9; 6; 8; then 7, 2, 4. */
 
 /* A clock as it starts. Its first request makes its notifier, a task of this priority, whose code is the notifier below. */

@@ -166,6 +166,7 @@ static struct {
 void cover_forget(void)
 {
     memset(past, 0, sizeof past);
+    cover_cut_forget();
 }
 
 /* One sender, and those who stand behind it in the queue. */
@@ -270,6 +271,7 @@ void cover_targets(const struct table *k)
 void cover_taken(const struct table *k)
 {
     bool sending = false, exited = false;
+    cover_cut_taken(k);
     for (uint32_t tid = 1; tid <= k->used; tid++) {
         const struct task *t = &k->task[tid];
         enum state target;

@@ -5,127 +5,7 @@
 #ifndef PEER_COVER_H
 #define PEER_COVER_H
 
-/* Where two reasons hold the text has the one that is answered first. What is
- * said of places is true of a clock that takes the lowest free one. */
-#define CLOCK_PATHS(X) \
-    X(CLOCK_BEFORE, "clock: message before the first new clock") \
-    X(CLOCK_NEW, "clock: new clock") \
-    X(CLOCK_NEW_ASLEEP, "clock: new clock after one with sleepers") \
-    X(CLOCK_CUT, "clock: input ending in an incomplete record") \
-    X(CLOCK_FAR_TID, "clock: message from a tid past 32") \
-    X(CLOCK_EMPTY, "clock: -4, length 0") \
-    X(CLOCK_SHORT, "clock: -4, length 1 to 7") \
-    X(CLOCK_LONG, "clock: -4, length past 8") \
-    X(CLOCK_LENGTH_TICK, "clock: -4, length alone, tick of the notifier") \
-    X(CLOCK_LENGTH_TIME, "clock: -4, length alone, Time") \
-    X(CLOCK_LENGTH_ONCE, "clock: -4, length alone, delay due at once") \
-    X(CLOCK_LENGTH_SLEEP, "clock: -4, length alone, delay that would sleep") \
-    X(CLOCK_LENGTH_2, "clock: -4 by length where -2 holds too") \
-    X(CLOCK_LENGTH_3, "clock: -4 by length where -3 holds too") \
-    X(CLOCK_OP_NONE, "clock: -4, op 0") \
-    X(CLOCK_OP_PAST, "clock: -4, op past 4") \
-    X(CLOCK_TICK_ARGUMENT, "clock: -4, tick of the notifier, argument") \
-    X(CLOCK_TIME_ARGUMENT, "clock: -4, Time, argument") \
-    X(CLOCK_TICK_OTHER, "clock: -4, tick from another tid") \
-    X(CLOCK_TICK_SLEEPER, "clock: -4, tick from another tid that sleeps") \
-    X(CLOCK_TICK_NOBODY, "clock: -4, tick where the notifier is tid 0") \
-    X(CLOCK_ASLEEP_DELAY, "clock: -4, Delay from one asleep") \
-    X(CLOCK_ASLEEP_ZERO, "clock: -4, Delay of 0 from one asleep") \
-    X(CLOCK_ASLEEP_UNTIL, "clock: -4, DelayUntil from one asleep") \
-    X(CLOCK_ASLEEP_DUE, "clock: -4, DelayUntil from one asleep, due") \
-    X(CLOCK_ASLEEP_2, "clock: -4, asleep, where -2 holds too") \
-    X(CLOCK_ASLEEP_3, "clock: -4, asleep, where -3 holds too") \
-    X(CLOCK_ASLEEP_2_FULL, "clock: -4, asleep, where -2 holds too, full") \
-    X(CLOCK_NEGATIVE, "clock: -2") \
-    X(CLOCK_NEGATIVE_ONE, "clock: -2, Delay of -1") \
-    X(CLOCK_NEGATIVE_MOST, "clock: -2, Delay of -2^31") \
-    X(CLOCK_NEGATIVE_FULL, "clock: -2 where all places are taken") \
-    X(CLOCK_FULL_DELAY, "clock: -3, Delay") \
-    X(CLOCK_FULL_UNTIL, "clock: -3, DelayUntil") \
-    X(CLOCK_TIME, "clock: Time") \
-    X(CLOCK_TIME_ASLEEP, "clock: Time from one asleep") \
-    X(CLOCK_TIME_FULL, "clock: Time where all places are taken") \
-    X(CLOCK_ZERO, "clock: at once, Delay of 0") \
-    X(CLOCK_ZERO_FULL, "clock: at once, Delay of 0, full") \
-    X(CLOCK_DUE_NOW, "clock: at once, DelayUntil the count") \
-    X(CLOCK_DUE_ONE, "clock: at once, DelayUntil one behind") \
-    X(CLOCK_DUE_MOST, "clock: at once, DelayUntil 2^31 - 1 behind") \
-    X(CLOCK_DUE_WRAPPED, "clock: at once, DelayUntil behind the wrap") \
-    X(CLOCK_DUE_FULL, "clock: at once, DelayUntil due, full") \
-    X(CLOCK_DELAY_SLEEPS, "clock: asleep by Delay") \
-    X(CLOCK_DELAY_ONE, "clock: asleep by Delay of 1") \
-    X(CLOCK_DELAY_MOST, "clock: asleep by Delay of 2^31 - 1") \
-    X(CLOCK_DELAY_WRAPS, "clock: asleep by Delay across the wrap") \
-    X(CLOCK_DELAY_TO_WRAP, "clock: asleep by Delay to count 0") \
-    X(CLOCK_UNTIL_SLEEPS, "clock: asleep by DelayUntil") \
-    X(CLOCK_UNTIL_ONE, "clock: asleep by DelayUntil one ahead") \
-    X(CLOCK_UNTIL_NEAR, "clock: asleep by DelayUntil 2^31 - 1 ahead") \
-    X(CLOCK_UNTIL_MOST, "clock: asleep by DelayUntil 2^31 ahead") \
-    X(CLOCK_UNTIL_WRAPS, "clock: asleep by DelayUntil across the wrap") \
-    X(CLOCK_UNTIL_TO_WRAP, "clock: asleep by DelayUntil count 0") \
-    X(CLOCK_LAST_PLACE, "clock: asleep in the last place") \
-    X(CLOCK_AGAIN, "clock: asleep in a place used before") \
-    X(CLOCK_AGAIN_LAST, "clock: the last free place, used before") \
-    X(CLOCK_NOTIFIER_SLEEPS, "clock: the notifier asleep") \
-    X(CLOCK_TICK_ALONE, "clock: tick where nobody sleeps") \
-    X(CLOCK_TICK_PASSES, "clock: tick where none of the sleepers is due") \
-    X(CLOCK_WAKES_ONE, "clock: tick that wakes one") \
-    X(CLOCK_WAKES_SEVERAL, "clock: tick that wakes several") \
-    X(CLOCK_WAKES_ALL, "clock: tick that wakes all 16") \
-    X(CLOCK_WAKES_SOME, "clock: tick that wakes some and leaves some") \
-    X(CLOCK_WAKES_TIDS, "clock: arrival is not the order of tids") \
-    X(CLOCK_WAKES_PLACES, "clock: arrival is not the order of places") \
-    X(CLOCK_WAKES_SORTS, "clock: both sorts of delay due at one tick") \
-    X(CLOCK_WAKES_NOTIFIER, "clock: the notifier woken by its own tick") \
-    X(CLOCK_WRAPS, "clock: tick to count 0") \
-    X(CLOCK_WRAPS_PASSES, "clock: tick to count 0, sleepers, none due") \
-    X(CLOCK_WRAPS_WAKES, "clock: tick to count 0 that wakes") \
-    X(CLOCK_WAKES_AFTER, "clock: woken past a wrap since it slept") \
-    X(CLOCK_HALF, "clock: tick to count 2^31")
-
-/* What request P2 asks of an Exit, and of the target of a queued sender. A
- * sender is let go where its target exits. What needs several steps of one
- * kernel, from DOOR_RECEIVED to DOOR_STAYED_REPLY, only a run can meet; what
- * is said of images, only cases. */
-#define DOOR_PATHS(X) \
-    X(DOOR_ONE, "Exit that lets one sender go") \
-    X(DOOR_SEVERAL, "Exit that lets several senders go") \
-    X(DOOR_CROWD, "Exit that lets all 31 others go") \
-    X(DOOR_TO_HEAD, "Exit, the first of its senders goes on") \
-    X(DOOR_TO_LATER, "Exit, a later one of its senders goes on") \
-    X(DOOR_TO_OTHER, "Exit with senders, one ready before goes on") \
-    X(DOOR_REPLY, "Exit with senders, one reply-blocked stays") \
-    X(DOOR_ELSEWHERE, "Exit with senders, those of another stay") \
-    X(DOOR_ABOVE, "let go: of a better priority than who exits") \
-    X(DOOR_EQUAL, "let go: of the same priority") \
-    X(DOOR_BELOW, "let go: of a worse priority") \
-    X(DOOR_FIRST_READY, "let go: the first ready at its priority") \
-    X(DOOR_TAIL, "let go: behind one ready before") \
-    X(DOOR_TIDS, "let go: two of a priority, the higher tid first") \
-    X(DOOR_PRIORITIES, "let go: the better priority last") \
-    X(DOOR_CHAIN, "let go: one with senders of its own") \
-    X(DOOR_RECEIVED, "Exit with senders, another received before") \
-    X(DOOR_AGAIN, "Exit with senders of one let go before") \
-    X(DOOR_TWICE, "let go: for the second time") \
-    X(DOOR_SHOWN_LATER, "shown: -2 of one let go, at a later step") \
-    X(DOOR_SEND, "Send -1 to the task that let the caller go") \
-    X(DOOR_SEND_OTHER, "Send from one let go, taken") \
-    X(DOOR_LET_GO_REPLY, "Reply -2, tid was let go and is ready") \
-    X(DOOR_STAYED_REPLY, "Reply to a task whose receiver exited") \
-    X(TARGET_ACTIVE, "image taken: sender at the active task") \
-    X(TARGET_READY, "image taken: sender at a ready task") \
-    X(TARGET_SENDER, "image taken: sender at a receive-blocked task") \
-    X(TARGET_REPLY, "image taken: sender at a reply-blocked task") \
-    X(TARGET_EVENT, "image taken: sender at an event-blocked task") \
-    X(EXITED_ALONE, "image taken: exited task, senders elsewhere") \
-    X(CLOSED_ONE, "refusal 2, target exited, of one sender") \
-    X(CLOSED_SEVERAL, "refusal 2, target exited, of several senders") \
-    X(CLOSED_IDLE, "refusal 2, target exited, none active") \
-    X(CLOSED_1, "refusal 1 where a target exited") \
-    X(CLOSED_3, "refusal 2, target exited, where 3 holds too") \
-    X(CLOSED_4, "refusal 2, target exited, where 4 holds too") \
-    X(CLOSED_8, "refusal 2, target exited, where 8 holds too") \
-    X(CLOSED_9, "refusal 2, target exited, where 9 holds too")
+#include "cover_paths.h"
 
 #define COVER_PATHS(X) \
     X(REFUSAL_1, "refusal 1") \
@@ -218,6 +98,7 @@
     X(SHOW_FROM, "shown: value with from") \
     X(SHOW_FAULT, "shown: fault") \
     X(SHOW_IDLE, "shown: no ready task") \
+    CUT_PATHS(X) \
     DOOR_PATHS(X) \
     CLOCK_PATHS(X)
 
@@ -233,7 +114,6 @@
     X(RULE_PARENT_FIRST, 0xFE, "parent of tid 1 not 0") \
     X(RULE_PARENT_NONE, 0xFE, "parent of another is 0") \
     X(RULE_PARENT_LATE, 0xFE, "parent not below tid") \
-    X(RULE_BYTE_15, 0xFE, "byte 15 not zero") \
     X(RULE_PLACE_UNUSED, 0xEA, "unused place not zero") \
     X(RULE_NAME_UNUSED, 0xAE, "unused byte 4 not zero") \
     X(RULE_MESSAGE_BAD, 0x18, "message buffer bad") \
@@ -250,6 +130,12 @@
     X(RULE_VALUE_FROM, 0x04, "from past the used slots") \
     X(RULE_FAULT, 0x04, "fault out of range") \
     X(RULE_FAULT_FROM, 0x04, "fault with a from") \
+    X(RULE_CUT_EMPTY, 0xFE, "cut without a result") \
+    X(RULE_CUT_EMPTY_PAST, 0xFE, "byte 15 past 1, no result") \
+    X(RULE_CUT_FAULT, 0x04, "cut with a fault") \
+    X(RULE_CUT_FAULT_PAST, 0x04, "byte 15 past 1, a fault") \
+    X(RULE_CUT_ODD, 0x04, "byte 15 odd, past 1, a value") \
+    X(RULE_CUT_EVEN, 0x04, "byte 15 even, not 0, a value") \
     X(RULE_TARGET_NONE, 0x10, "target 0") \
     X(RULE_TARGET_UNUSED, 0x10, "target not used") \
     X(RULE_TARGET_SELF, 0x10, "target is itself") \
@@ -296,6 +182,19 @@ void cover_replied(const struct table *k, uint32_t tid, bool taken);
 void cover_targets(const struct table *k);
 void cover_taken(const struct table *k);
 void cover_closed(struct request q);
+void cover_cut_forget(void);
+void cover_lengths(enum cover_path first, struct buffer source,
+                   struct buffer room);
+void cover_message(enum cover_path told, uint32_t receiver, uint32_t sender,
+                   bool cut);
+void cover_reply_cut(uint32_t replier, uint32_t sender, bool cut);
+void cover_cut_shown(uint32_t tid, struct result result);
+void cover_cut_taken(const struct table *k);
+void cover_cut_left(const struct table *k, uint32_t verdict);
+enum cover_rule cover_cut_rule(uint8_t cut, uint32_t kind);
+void cover_cut_bad(const uint8_t *image, struct request q);
+void cover_answer(uint64_t answer, uint64_t record, const uint8_t *image,
+                  uint64_t image_length, uint64_t areas);
 void cover_no_sleepers(void);
 void cover_recorded(const struct clock *c, const struct clock_message *m);
 void cover_heard(const struct clock *c, const struct clock_message *m,
@@ -311,7 +210,10 @@ void cover_ticked(const struct clock *c, const struct clock_answers *given);
     MARK((first) + ((tid) - 1 >= TASKS ? 0 : (tid) > (used) ? 1 : 2))
 #define MARK_DELIVERY(first, source, room) \
     (MARK((first) + ((room).length < (source).length)), \
-     MARK_IF((room).length == 0 || (source).length == 0, (first) + 2))
+     MARK_IF((room).length == 0 || (source).length == 0, (first) + 2), \
+     cover_lengths((first) == SEND_WAITING ? LENGTH_SEND_BY_ONE \
+                   : (first) == RECEIVE_QUEUE ? LENGTH_RECEIVE_BY_ONE \
+                   : LENGTH_REPLY_BY_ONE, source, room))
 #define MARK_REFUSED(verdict, active, q) cover_refused(verdict, active, q)
 #define COVER_COMPANY(k) \
     ((k)->ready[(k)->task[(k)->active].priority].length > 0)
@@ -334,6 +236,20 @@ void cover_ticked(const struct clock *c, const struct clock_answers *given);
 #define MARK_CLOSED(q) cover_closed(q)
 #define COVER_CLOSED \
     (cover_rule == RULE_EXITED_BEFORE || cover_rule == RULE_EXITED_BEHIND)
+
+/* Copies that were cut, and who is told. */
+#define MARK_MESSAGE(told, receiver, sender, cut) \
+    cover_message(told, receiver, sender, cut)
+#define MARK_REPLY_CUT(replier, sender, cut) \
+    cover_reply_cut(replier, sender, cut)
+#define MARK_CUT_SHOWN(tid, result) cover_cut_shown(tid, result)
+#define MARK_CUT_LEFT(k, verdict) cover_cut_left(k, verdict)
+#define MARK_CUT_BAD(image, q) cover_cut_bad(image, q)
+#define MARK_ASK_CUT(cut, kind) MARK_ASK(cover_cut_rule(cut, kind))
+#define COVER_CUT \
+    (cover_rule >= RULE_CUT_EMPTY && cover_rule <= RULE_CUT_EVEN)
+#define MARK_ANSWER(answer, record, image, image_length, areas) \
+    cover_answer(answer, record, image, image_length, areas)
 
 /* A rule is asked of a record; MARK_RULE counts the one asked last. */
 #define MARK_RECORD(state) ((void)(cover_state = (state)))
@@ -369,6 +285,13 @@ void cover_ticked(const struct clock *c, const struct clock_answers *given);
 #define MARK_TARGETS(k) ((void)0)
 #define MARK_TAKEN(k) ((void)0)
 #define MARK_CLOSED(q) ((void)0)
+#define MARK_MESSAGE(told, receiver, sender, cut) ((void)0)
+#define MARK_REPLY_CUT(replier, sender, cut) ((void)0)
+#define MARK_CUT_SHOWN(tid, result) ((void)0)
+#define MARK_CUT_LEFT(k, verdict) ((void)0)
+#define MARK_CUT_BAD(image, q) ((void)0)
+#define MARK_ASK_CUT(cut, kind) ((void)0)
+#define MARK_ANSWER(answer, record, image, image_length, areas) ((void)0)
 #define MARK_RECORD(state) ((void)0)
 #define MARK_ASK(rule) ((void)0)
 #define MARK_ASK_IF(test, rule) ((void)0)

@@ -3,6 +3,7 @@
 #include <string.h>
 
 #include "images.h"
+#include "pick.h"
 
 enum {
     ANY = 0xFE,
@@ -57,6 +58,8 @@ static void set_result(uint8_t *b, uint8_t kind, int32_t number, uint32_t from)
 {
     b[5] = kind;
     b[14] = (uint8_t)from;
+    if (kind != RESULT_VALUE)
+        b[15] = 0;
     put4(b + 16, number);
 }
 
@@ -74,15 +77,14 @@ static void bad_room(uint64_t *s, uint8_t *b)
 static void damage_field(uint64_t *s, uint8_t *image)
 {
     static const struct { uint8_t states, at; } unused[] = {
-        {0xEA, 3}, {0xAE, 4}, {0xE6, 6}, {0xE6, 8}, {0xCE, 10}, {0xCE, 12},
-        {0xFE, 15}};
-    uint32_t i = below(s, 9), half = below(s, 2);
-    uint8_t *b = find(s, image, i < 7 ? unused[i].states : ANY);
+        {0xEA, 3}, {0xAE, 4}, {0xE6, 6}, {0xE6, 8}, {0xCE, 10}, {0xCE, 12}};
+    uint32_t i = below(s, 8), half = below(s, 2);
+    uint8_t *b = find(s, image, i < 6 ? unused[i].states : ANY);
     if (!b)
         return;
-    if (i < 7)
-        b[unused[i].at + (i >= 2 && i < 6 ? half : 0)] = nonzero(s);
-    else if (i == 7)
+    if (i < 6)
+        b[unused[i].at + (i >= 2 ? half : 0)] = nonzero(s);
+    else if (i == 6)
         b[0] = (uint8_t)(chance(s, 30) ? 8 : 8 + below(s, 248));
     else
         b[1] = (uint8_t)(chance(s, 30) ? 32 : 32 + below(s, 224));
@@ -116,6 +118,31 @@ static void damage_result(uint64_t *s, uint8_t *image)
         set_result(b, RESULT_FAULT, -1 - (int32_t)below(s, 3), 1 + from);
     if (i == 1 && b[5] == RESULT_FAULT)
         put4(b + 16, -1 - (int32_t)below(s, 3));
+}
+
+static uint8_t past_one(uint64_t *s)
+{
+    return (uint8_t)(chance(s, 50) ? PICK(s, 2, 3, 128, 129, 254, 255)
+                                   : 2 + (int32_t)below(s, 254));
+}
+
+/* Byte 15, which tells of a value; with i 0 nothing is wrong after it. */
+static void damage_cut(uint64_t *s, uint8_t *image)
+{
+    uint32_t n = used(image), i = below(s, 8), from = below(s, n + 1);
+    int32_t number = PICK(s, 0, 1, 256, 257, INT32_MAX);
+    uint8_t *b = find(s, image, i < 4 ? IS_READY : ANY);
+    if (i == 7 && n < TASKS)
+        b = slot(image, chance(s, 50) ? n : n + below(s, TASKS - n));
+    if (!b)
+        return;
+    if (i == 0 || i == 1)
+        set_result(b, RESULT_VALUE, number, from);
+    else if (i == 2 || i == 3)
+        set_result(b, RESULT_FAULT, -1 - (int32_t)below(s, 3), 0);
+    else if (b[0] == STATE_READY)
+        set_result(b, RESULT_NOTHING, 0, 0);
+    b[15] = i == 1 || i == 3 || i == 5 ? past_one(s) : 1;
 }
 
 static void damage_parent(uint64_t *s, uint8_t *image)
@@ -314,7 +341,7 @@ void image_damage(uint64_t *s, uint8_t *image)
 {
     static void (*const damage[])(uint64_t *, uint8_t *) = {
         damage_field, damage_field, damage_field, damage_result,
-        damage_result, damage_parent, damage_name, damage_place,
-        damage_whole, damage_target, damage_rough};
+        damage_result, damage_cut, damage_cut, damage_parent, damage_name,
+        damage_place, damage_whole, damage_target, damage_rough};
     damage[below(s, sizeof damage / sizeof damage[0])](s, image);
 }

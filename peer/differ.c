@@ -121,6 +121,17 @@ static int cases(FILE *a, FILE *b)
     }
 }
 
+/* How many whole cases there are, as input: four chunks each. */
+static int count(FILE *in)
+{
+    unsigned long chunks = 0;
+    uint32_t length;
+    while (get_word(in, &length) && fseek(in, (long)length, SEEK_CUR) == 0)
+        chunks++;
+    printf("%lu\n", chunks / 4);
+    return 0;
+}
+
 static void get_started(FILE *f, uint32_t length, struct outcome *o)
 {
     memset(o, 0, sizeof *o);
@@ -222,9 +233,11 @@ static int clocks(FILE *a, FILE *b, FILE *in)
 
 int main(int argc, char **argv)
 {
-    FILE *a = argc >= 4 ? fopen(argv[2], "rb") : NULL;
+    FILE *a = argc >= 3 ? fopen(argv[2], "rb") : NULL;
     FILE *b = argc >= 4 ? fopen(argv[3], "rb") : NULL;
     FILE *in = argc == 5 ? fopen(argv[4], "rb") : NULL;
+    if (argc == 3 && a && strcmp(argv[1], "count") == 0)
+        return count(a);
     if (argc == 4 && a && b && strcmp(argv[1], "lines") == 0)
         return lines(a, b);
     if (argc == 4 && a && b && strcmp(argv[1], "cases") == 0)
@@ -234,6 +247,7 @@ int main(int argc, char **argv)
     if (a && b && in && strcmp(argv[1], "clocks") == 0)
         return clocks(a, b, in);
     fputs("usage: differ lines|cases PEER OTHER\n"
-          "       differ starts|clocks PEER OTHER INPUT\n", stderr);
+          "       differ starts|clocks PEER OTHER INPUT\n"
+          "       differ count CASES\n", stderr);
     return 2;
 }

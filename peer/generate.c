@@ -36,15 +36,13 @@ static int requests(uint64_t seed, unsigned long steps)
 
 /* ---- cases ---- */
 
-enum { IMAGE_CHUNK, AREAS_CHUNK, RECORD_CHUNK, ANSWER_CHUNK, CHUNKS };
-
 struct chunk {
     uint32_t length;
     uint8_t bytes[16384];
 };
 
-static const uint32_t right[CHUNKS] = {IMAGE_BYTES, AREAS_BYTES,
-                                       RECORD_BYTES, ANSWER_BYTES};
+const uint32_t right_lengths[CHUNKS] = {IMAGE_BYTES, AREAS_BYTES,
+                                        RECORD_BYTES, ANSWER_BYTES};
 
 static void put_chunk(const struct chunk *c)
 {
@@ -88,21 +86,30 @@ static void wrong_lengths(uint64_t *s, struct chunk *c)
     for (int i = 0; i < CHUNKS; i++) {
         if (!(which >> i & 1))
             continue;
-        switch (below(s, 5)) {
+        switch (below(s, 8)) {
         case 0:
             c[i].length = 0;
             break;
         case 1:
-            c[i].length = right[i] - 1;
+            c[i].length = right_lengths[i] - 1;
             break;
         case 2:
-            c[i].length = right[i] + 1;
+            c[i].length = right_lengths[i] + 1;
             break;
         case 3:
-            c[i].length = 2 * right[i];
+            c[i].length = 2 * right_lengths[i];
+            break;
+        case 4:                  /* a word short, as answers once were */
+            c[i].length = right_lengths[i] - 4;
+            break;
+        case 5:
+            c[i].length = right_lengths[i] + 4;
+            break;
+        case 6:                  /* alike in the low byte */
+            c[i].length = right_lengths[i] + 256;
             break;
         default:
-            c[i].length = right[below(s, CHUNKS)];
+            c[i].length = right_lengths[below(s, CHUNKS)];
             break;
         }
     }
@@ -113,8 +120,8 @@ static void one_case(struct world *run, uint64_t *s)
     static struct chunk c[CHUNKS];
     uint32_t roll = below(s, 100);
     for (int i = 0; i < CHUNKS; i++) {
-        c[i].length = right[i];
-        garbage(s, c[i].bytes, right[i] + 64);
+        c[i].length = right_lengths[i];
+        garbage(s, c[i].bytes, right_lengths[i] + 64);
     }
     base_image(run, s, c[IMAGE_CHUNK].bytes);
     if (!table_read(&world.table, c[IMAGE_CHUNK].bytes)) {
@@ -140,18 +147,26 @@ static void one_case(struct world *run, uint64_t *s)
 }
 
 /* Areas that are all different show what was copied though nothing may be. */
-void put_case(const uint8_t *image, uint32_t areas, const struct request *q)
+void put_lengths(const uint8_t *image, const uint32_t *length,
+                 const struct request *q)
 {
     static struct chunk c[CHUNKS];
     uint64_t s = 1;
     for (int i = 0; i < CHUNKS; i++) {
-        c[i].length = i == AREAS_CHUNK ? areas : right[i];
+        c[i].length = length[i];
         garbage(&s, c[i].bytes, c[i].length);
     }
     memcpy(c[IMAGE_CHUNK].bytes, image, IMAGE_BYTES);
     request_write(q, c[RECORD_CHUNK].bytes);
     for (int i = 0; i < CHUNKS; i++)
         put_chunk(&c[i]);
+}
+
+void put_case(const uint8_t *image, uint32_t areas, const struct request *q)
+{
+    const uint32_t length[CHUNKS] = {IMAGE_BYTES, areas, RECORD_BYTES,
+                                     ANSWER_BYTES};
+    put_lengths(image, length, q);
 }
 
 static int cases(uint64_t seed, unsigned long count)
@@ -176,18 +191,47 @@ static int first_run(void)
     return 0;
 }
 
+/* What needs no seed, by its name; of some there are several patterns. */
+static const struct {
+    const char *name;
+    int (*make)(void);
+} fixed[] = {
+    {"first-run", first_run}, {"fixed-cases", doors_cases},
+    {"cut-cases", cuts_cases}, {"fixed-starts", starts_fixed},
+    {"fixed-clocks", clocks_fixed}};
+
+static const struct {
+    const char *name;
+    int (*make)(uint32_t pattern);
+} patterns[] = {{"fixed-run", doors_run}, {"cut-run", cuts_run}};
+
+#define COUNT(list) (sizeof(list) / sizeof(list)[0])
+
+static int usage(void)
+{
+    fputs("usage: generate requests SEED STEPS [INDEX]\n"
+          "       generate cases SEED COUNT [INDEX]\n"
+          "       generate starts SEED COUNT [INDEX]\n"
+          "       generate clock SEED MESSAGES [INDEX]\n"
+          "       generate first-run\n"
+          "       generate fixed-run PATTERN\n"
+          "       generate fixed-cases\n"
+          "       generate cut-run PATTERN\n"
+          "       generate cut-cases\n"
+          "       generate fixed-starts\n"
+          "       generate fixed-clocks\n"
+          "       generate one-start PRIORITY LENGTH\n", stderr);
+    return 2;
+}
+
 int main(int argc, char **argv)
 {
-    if (argc == 2 && strcmp(argv[1], "first-run") == 0)
-        return first_run();
-    if (argc == 2 && strcmp(argv[1], "fixed-starts") == 0)
-        return starts_fixed();
-    if (argc == 2 && strcmp(argv[1], "fixed-clocks") == 0)
-        return clocks_fixed();
-    if (argc == 2 && strcmp(argv[1], "fixed-cases") == 0)
-        return doors_cases();
-    if (argc == 3 && strcmp(argv[1], "fixed-run") == 0)
-        return doors_run((uint32_t)strtoul(argv[2], NULL, 10));
+    for (unsigned i = 0; argc == 2 && i < COUNT(fixed); i++)
+        if (strcmp(argv[1], fixed[i].name) == 0)
+            return fixed[i].make();
+    for (unsigned i = 0; argc == 3 && i < COUNT(patterns); i++)
+        if (strcmp(argv[1], patterns[i].name) == 0)
+            return patterns[i].make((uint32_t)strtoul(argv[2], NULL, 10));
     if (argc == 4 && strcmp(argv[1], "one-start") == 0)
         return starts_one((uint32_t)strtoul(argv[2], NULL, 10),
                           (uint32_t)strtoul(argv[3], NULL, 10));
@@ -204,15 +248,5 @@ int main(int argc, char **argv)
         if (strcmp(argv[1], "clock") == 0)
             return clocks_drawn(seed, count);
     }
-    fputs("usage: generate requests SEED STEPS [INDEX]\n"
-          "       generate cases SEED COUNT [INDEX]\n"
-          "       generate starts SEED COUNT [INDEX]\n"
-          "       generate clock SEED MESSAGES [INDEX]\n"
-          "       generate first-run\n"
-          "       generate fixed-run PATTERN\n"
-          "       generate fixed-cases\n"
-          "       generate fixed-starts\n"
-          "       generate fixed-clocks\n"
-          "       generate one-start PRIORITY LENGTH\n", stderr);
-    return 2;
+    return usage();
 }

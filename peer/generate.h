@@ -57,15 +57,32 @@ bool world_dead(const struct table *k);
 struct request world_choose(struct world *w);  /* any request */
 struct request world_live(struct world *w);    /* one that keeps it going */
 
-/* To standard output: a record, and a case that is whole but for the length of
- * the areas. */
+/* An offset and a length at arg: any, a bad one, and one for a copy from or
+ * into the other buffer, NULL if it is not known. */
+void room(struct world *w, int32_t *arg);
+void room_bad(struct world *w, int32_t *offset, int32_t *length);
+void room_facing(struct world *w, int32_t *arg, const struct buffer *other);
+
+/* The chunks of a case, and how long each has to be. */
+enum { IMAGE_CHUNK, AREAS_CHUNK, RECORD_CHUNK, ANSWER_CHUNK, CHUNKS };
+extern const uint32_t right_lengths[CHUNKS];
+
+/* To standard output: a record; a case with chunks of these lengths; one that
+ * is whole but for the length of the areas. */
 void put_request(const struct request *q);
+void put_lengths(const uint8_t *image, const uint32_t *length,
+                 const struct request *q);
 void put_case(const uint8_t *image, uint32_t areas, const struct request *q);
 
 /* A fixed list of tasks that exit with senders queued, to standard output:
  * streams, each with priorities of its own, and cases. */
 int doors_run(uint32_t pattern);
 int doors_cases(void);
+
+/* A fixed list of copies that are cut or just not, likewise; the cases are also
+ * about byte 15 and the length of an answer. */
+int cuts_run(uint32_t pattern);
+int cuts_cases(void);
 
 /* Images for cases: a good one made up whole, and one thing spoiled. */
 void image_invent(uint64_t *seed, uint8_t *image);

@@ -1,77 +1,9 @@
 /* The stored records and the byte entry. */
 #include "kernel.h"
+#include "stored.h"
 
 #include <string.h>
 #include "cover.h"
-
-/* Where the fields of a stored task stand. */
-enum {
-    AT_STATE = 0,
-    AT_PRIORITY = 1,
-    AT_PARENT = 2,
-    AT_PLACE = 3,
-    AT_WAITS_FOR = 4,
-    AT_RESULT = 5,
-    AT_MESSAGE = 6,
-    AT_REPLY = 10,
-    AT_FROM = 14,
-    AT_ZERO = 15,
-    AT_NUMBER = 16
-};
-
-static uint32_t get16(const uint8_t *b)
-{
-    return (uint32_t)b[0] | (uint32_t)b[1] << 8;
-}
-
-static uint32_t get32(const uint8_t *b)
-{
-    return get16(b) | get16(b + 2) << 16;
-}
-
-/* By memcpy, as C11 leaves the cast of a large number to the compiler. */
-static int32_t get_signed32(const uint8_t *b)
-{
-    uint32_t u = get32(b);
-    int32_t s;
-
-    memcpy(&s, &u, sizeof s);
-    return s;
-}
-
-static void put16(uint8_t *b, uint32_t u)
-{
-    b[0] = (uint8_t)u;
-    b[1] = (uint8_t)(u >> 8);
-}
-
-static void put32(uint8_t *b, uint32_t u)
-{
-    put16(b, u);
-    put16(b + 2, u >> 16);
-}
-
-/* Which states use which fields: read and written by the same rule. */
-
-static bool uses_place(enum state s)
-{
-    return s == STATE_READY || s == STATE_RECEIVE_BLOCKED;
-}
-
-static bool uses_waits_for(enum state s)
-{
-    return s == STATE_RECEIVE_BLOCKED || s == STATE_EVENT_BLOCKED;
-}
-
-static bool uses_message(enum state s)
-{
-    return s == STATE_SEND_BLOCKED || s == STATE_RECEIVE_BLOCKED;
-}
-
-static bool uses_reply(enum state s)
-{
-    return s == STATE_RECEIVE_BLOCKED || s == STATE_REPLY_BLOCKED;
-}
 
 static bool buffer_read(struct buffer *b, const uint8_t *at, bool in_use)
 {
@@ -86,7 +18,7 @@ static bool buffer_read(struct buffer *b, const uint8_t *at, bool in_use)
 static bool result_read(struct task *t, const uint8_t *slot, uint32_t used)
 {
     struct result r = { slot[AT_RESULT], get_signed32(slot + AT_NUMBER),
-                        slot[AT_FROM] };
+                        slot[AT_FROM], slot[AT_CUT] == 1 };
 
     t->result = r;
     MARK_ASK(RULE_RESULT_KIND);
@@ -106,6 +38,13 @@ static bool result_read(struct task *t, const uint8_t *slot, uint32_t used)
     default:
         return false;
     }
+}
+
+/* Only a value tells of a copy. */
+static bool cut_is_good(uint8_t cut, uint32_t kind)
+{
+    MARK_ASK_CUT(cut, kind);
+    return cut == 0 || (cut == 1 && kind == RESULT_VALUE);
 }
 
 static bool parent_is_good(uint32_t parent, uint32_t tid)
@@ -158,8 +97,7 @@ static bool task_read(struct task *t, uint32_t tid, const uint8_t *slot,
         MARK_AND_ASK(RULE_REPLY_BAD)
         && buffer_read(&t->reply, slot + AT_REPLY, uses_reply(t->state))
         && result_read(t, slot, used)
-        MARK_AND_ASK(RULE_BYTE_15)
-        && slot[AT_ZERO] == 0;
+        && cut_is_good(slot[AT_CUT], t->result.kind);
 }
 
 /* The number of used slots; 0, which no good table has, where they are not a
@@ -304,6 +242,7 @@ static void task_write(const struct task *t, uint8_t *slot)
     }
     slot[AT_RESULT] = (uint8_t)t->result.kind;
     slot[AT_FROM] = (uint8_t)t->result.from;
+    slot[AT_CUT] = t->result.cut;
     put32(slot + AT_NUMBER, (uint32_t)t->result.number);
 }
 
@@ -356,6 +295,7 @@ static void answer_write(const struct answer *a, uint8_t *bytes)
     put32(bytes + 8, a->result.kind);
     put32(bytes + 12, (uint32_t)a->result.number);
     put32(bytes + 16, a->result.from);
+    put32(bytes + 20, a->result.cut);
 }
 
 uint32_t peer_step(uint8_t *image, uint64_t image_len,
@@ -363,11 +303,12 @@ uint32_t peer_step(uint8_t *image, uint64_t image_len,
                    const uint8_t *record, uint64_t record_len,
                    uint8_t *answer, uint64_t answer_len)
 {
-    struct answer a = { 0, 0, { RESULT_NOTHING, 0, 0 } };
+    struct answer a = { 0, 0, { RESULT_NOTHING, 0, 0, false } };
     struct table k;
 
     MARK_IF(answer_len != ANSWER_BYTES, REFUSAL_10);
     MARK_IF(answer_len != ANSWER_BYTES && record_len != RECORD_BYTES, ORDER_10_5);
+    MARK_ANSWER(answer_len, record_len, image, image_len, areas_len);
     if (answer_len != ANSWER_BYTES)
         return REFUSED_ANSWER;
     if (record_len != RECORD_BYTES) {
@@ -382,11 +323,13 @@ uint32_t peer_step(uint8_t *image, uint64_t image_len,
         MARK(REFUSAL_1);
         MARK_IF(!table_read(&k, image), ORDER_1_2);
         MARK_IF(!table_read(&k, image) && COVER_CLOSED, CLOSED_1);
+        MARK_IF(!table_read(&k, image) && COVER_CUT, CUT_BAD_1);
         a.verdict = REFUSED_AREAS;
     } else if (!table_read(&k, image)) {
         MARK(REFUSAL_2);
         MARK_RULE();
         MARK_CLOSED(request_read(record));
+        MARK_CUT_BAD(image, request_read(record));
         MARK_IF(get32(record) - 1 >= KIND_OWN_WRITE, ORDER_2_3);
         a.verdict = REFUSED_TABLE;
     } else {
@@ -394,6 +337,7 @@ uint32_t peer_step(uint8_t *image, uint64_t image_len,
 
         MARK_TAKEN(&k);
         a = table_step(&k, areas, &q);
+        MARK_CUT_LEFT(&k, a.verdict);
         if (a.verdict == 0)
             table_write(&k, image);
     }

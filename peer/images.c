@@ -8,8 +8,10 @@ static void put_result(uint64_t *s, uint8_t *b, uint32_t n)
     b[5] = (uint8_t)below(s, 3);
     b[14] = b[5] == RESULT_VALUE && chance(s, 60)
                 ? (uint8_t)below(s, n + 1) : 0;
+    b[15] = b[5] == RESULT_VALUE && chance(s, 40);
     if (b[5] == RESULT_VALUE)
-        put4(b + 16, chance(s, 20) ? INT32_MAX : (int32_t)below(s, 300));
+        put4(b + 16, chance(s, 20) ? INT32_MAX : chance(s, 10) ? 0
+                     : (int32_t)below(s, 300));
     if (b[5] == RESULT_FAULT)
         put4(b + 16, -1 - (int32_t)below(s, 3));
 }

@@ -4,21 +4,22 @@
 #include <string.h>
 #include "cover.h"
 
-static const struct result nothing = { RESULT_NOTHING, 0, 0 };
+static const struct result nothing = { RESULT_NOTHING, 0, 0, false };
 
 static struct result value(uint32_t number)
 {
-    return (struct result){ RESULT_VALUE, (int32_t)number, 0 };
+    return (struct result){ RESULT_VALUE, (int32_t)number, 0, false };
 }
 
-static struct result received(uint32_t length, uint32_t sender)
+/* The value of Send, Receive or Reply: it tells of one copy. */
+static struct result copied(uint32_t length, uint32_t sender, bool cut)
 {
-    return (struct result){ RESULT_VALUE, (int32_t)length, sender };
+    return (struct result){ RESULT_VALUE, (int32_t)length, sender, cut };
 }
 
 static struct result fault(int32_t number)
 {
-    return (struct result){ RESULT_FAULT, number, 0 };
+    return (struct result){ RESULT_FAULT, number, 0, false };
 }
 
 /* Never offset + length: the sum of two large arguments would overflow. */
@@ -75,16 +76,22 @@ static void make_ready(struct table *k, uint32_t tid, struct result result)
     table_append(k, &k->ready[t->priority], tid);
 }
 
-/* Copies between the areas of two different tasks; returns the count. */
-static uint32_t deliver(uint8_t *areas, uint32_t from, struct buffer source,
-                        uint32_t to, struct buffer target)
-{
-    uint32_t count = source.length < target.length ? source.length
-                                                   : target.length;
+struct copy {
+    uint32_t count;
+    bool cut;
+};
 
+/* Copies between the areas of two different tasks. */
+static struct copy deliver(uint8_t *areas, uint32_t from, struct buffer source,
+                           uint32_t to, struct buffer target)
+{
+    struct copy c = { source.length, target.length < source.length };
+
+    if (c.cut)
+        c.count = target.length;
     memcpy(areas + (to - 1) * AREA + target.offset,
-           areas + (from - 1) * AREA + source.offset, count);
-    return count;
+           areas + (from - 1) * AREA + source.offset, c.count);
+    return c;
 }
 
 /* Each kind's work. It leaves the caller active with its result set, or
@@ -131,6 +138,7 @@ static void send_message(struct table *k, uint8_t *areas,
 {
     struct task *caller = &k->task[k->active], *target;
     uint32_t tid = (uint32_t)q->arg[0];
+    struct copy c;
 
     if (!task_exists(k, q->arg[0])) {
         MARK_MISSING(SEND_RANGE, tid, k->used);
@@ -161,9 +169,10 @@ static void send_message(struct table *k, uint8_t *areas,
     if (target->state == STATE_SEND_BLOCKED) {
         MARK_DELIVERY(SEND_WAITING, caller->message, target->message);
         MARK_RECEIVED(tid, k->active);
-        deliver(areas, k->active, caller->message, tid, target->message);
+        c = deliver(areas, k->active, caller->message, tid, target->message);
+        MARK_MESSAGE(CUT_WAITING, tid, k->active, c.cut);
         caller->state = STATE_REPLY_BLOCKED;
-        make_ready(k, tid, received(caller->message.length, k->active));
+        make_ready(k, tid, copied(caller->message.length, k->active, c.cut));
     } else {
         MARK(target->senders.length == 0 ? SEND_QUEUED : SEND_BEHIND);
         caller->state = STATE_RECEIVE_BLOCKED;
@@ -177,6 +186,7 @@ static void receive_message(struct table *k, uint8_t *areas,
 {
     struct task *caller = &k->task[k->active], *sender;
     uint32_t tid;
+    struct copy c;
 
     if (!buffer_is_good(q->arg[0], q->arg[1])) {
         MARK(RECEIVE_BUFFER);
@@ -193,17 +203,19 @@ static void receive_message(struct table *k, uint8_t *areas,
     sender = &k->task[tid];
     MARK_DELIVERY(RECEIVE_QUEUE, sender->message, caller->message);
     MARK_RECEIVED(k->active, tid);
-    deliver(areas, tid, sender->message, k->active, caller->message);
+    c = deliver(areas, tid, sender->message, k->active, caller->message);
+    MARK_MESSAGE(CUT_QUEUE, k->active, tid, c.cut);
     sender->state = STATE_REPLY_BLOCKED;
-    caller->result = received(sender->message.length, tid);
+    caller->result = copied(sender->message.length, tid, c.cut);
 }
 
 static void reply_message(struct table *k, uint8_t *areas,
                           const struct request *q)
 {
     struct task *caller = &k->task[k->active];
-    uint32_t tid = (uint32_t)q->arg[0], copied;
+    uint32_t tid = (uint32_t)q->arg[0];
     struct buffer reply;
+    struct copy c;
 
     if (!task_exists(k, q->arg[0])) {
         MARK_MISSING(REPLY_RANGE, tid, k->used);
@@ -223,14 +235,16 @@ static void reply_message(struct table *k, uint8_t *areas,
         caller->result = fault(-3);
         return;
     }
-    /* The sender learns the full length, the replier the count copied. */
+    /* The sender learns the full length, the replier the count copied, and
+       both that the reply was cut; whether the message had been is not kept. */
     reply = buffer_of(q->arg[1], q->arg[2]);
-    copied = deliver(areas, k->active, reply, tid, k->task[tid].reply);
+    c = deliver(areas, k->active, reply, tid, k->task[tid].reply);
     MARK_DELIVERY(REPLY_WHOLE, reply, k->task[tid].reply);
     MARK_IF(k->task[tid].priority == caller->priority, REPLY_EQUAL);
     MARK_REPLIED(k, tid, true);
-    make_ready(k, tid, value(reply.length));
-    caller->result = value(copied);
+    MARK_REPLY_CUT(k->active, tid, c.cut);
+    make_ready(k, tid, copied(reply.length, 0, c.cut));
+    caller->result = copied(c.count, 0, c.cut);
 }
 
 static void await_event(struct table *k, const struct request *q)
@@ -311,6 +325,7 @@ static struct answer schedule(struct table *k)
             MARK_IF(a.result.kind == RESULT_VALUE, SHOW_VALUE + !!a.result.from);
             MARK_IF(a.result.kind == RESULT_FAULT, SHOW_FAULT);
             MARK_SHOWN(a.next);
+            MARK_CUT_SHOWN(a.next, a.result);
             t->result = nothing; /* shown once only */
             break;
         }

@@ -14,7 +14,7 @@ enum {
     SLOT_BYTES = 20,
     IMAGE_BYTES = TASKS * SLOT_BYTES,
     RECORD_BYTES = 24,
-    ANSWER_BYTES = 20,
+    ANSWER_BYTES = 24,
     FIRST_PRIORITY = 16
 };
 
@@ -71,6 +71,7 @@ struct result {
     uint32_t kind;
     int32_t number;
     uint32_t from;
+    bool cut; /* the copy behind this value had less room than was sent */
 };
 
 struct answer {

@@ -43,8 +43,8 @@ static void print_step(uint64_t step, const struct request *q,
         printf("R%" PRIu32, a->verdict);
     printf(" %" PRIu32 " ", a->next);
     if (a->result.kind == RESULT_VALUE)
-        printf("v %" PRId32 " %" PRIu32 "\n", a->result.number,
-               a->result.from);
+        printf("v %" PRId32 " %" PRIu32 " %d\n", a->result.number,
+               a->result.from, a->result.cut);
     else if (a->result.kind == RESULT_FAULT)
         printf("e %" PRId32 "\n", a->result.number);
     else

@@ -2,15 +2,7 @@
 #include <string.h>
 
 #include "generate.h"
-
-static int32_t pick(uint64_t *seed, const int32_t *from, uint32_t count)
-{
-    return from[below(seed, count)];
-}
-
-#define PICK(seed, ...) \
-    pick(seed, (const int32_t[]){__VA_ARGS__}, \
-         sizeof(int32_t[]){__VA_ARGS__} / sizeof(int32_t))
+#include "pick.h"
 
 static int32_t odd_number(uint64_t *seed)
 {
@@ -109,39 +101,6 @@ bool world_dead(const struct table *k)
 
 /* ---- arguments ---- */
 
-static void good_room(struct world *w, int32_t *offset, int32_t *length)
-{
-    uint64_t *s = &w->seed;
-    uint32_t style = below(s, 10);
-    *length = style < 2 ? 0 : style < 6 ? (int32_t)below(s, 9)
-              : style < 9 ? (int32_t)below(s, AREA + 1) : AREA;
-    *offset = (int32_t)below(s, (uint32_t)(AREA - *length + 1));
-    if (chance(s, 5)) {          /* right up to the end */
-        *length = PICK(s, 0, 1, 2);
-        *offset = AREA - *length;
-    }
-}
-
-static void bad_room(struct world *w, int32_t *offset, int32_t *length)
-{
-    static const int32_t bad[][2] = {
-        {255, 2}, {256, 1}, {257, 0}, {0, 257}, {-1, 1}, {1, -1}, {-1, -1},
-        {INT32_MAX, 1}, {1, INT32_MAX}, {INT32_MAX, INT32_MAX}, {-1, 0},
-        {0, -1}, {INT32_MIN, INT32_MIN}, {INT32_MIN, 0}, {128, 129},
-        {300, -100}, {-100, 300}, {65536, 0}, {0, 65536}, {65535, 1}};
-    uint32_t i = below(&w->seed, sizeof bad / sizeof bad[0]);
-    *offset = bad[i][0];
-    *length = bad[i][1];
-}
-
-static void room(struct world *w, int32_t *arg)
-{
-    if (chance(&w->seed, 3))
-        bad_room(w, arg, arg + 1);
-    else
-        good_room(w, arg, arg + 1);
-}
-
 /* Would a Send to this task wait for the caller itself, or for nobody? */
 static bool in_vain(const struct table *k, uint32_t t)
 {
@@ -216,9 +175,26 @@ static int32_t some_data(struct world *w)
                : PICK(&w->seed, 0, -5, INT32_MAX, -1, INT32_MIN, 1, 65536);
 }
 
+/* The buffer from or into which the request would copy, NULL if none. */
+static const struct buffer *other_end(const struct table *k,
+                                      const struct request *q)
+{
+    const struct queue *senders = &k->task[k->active].senders;
+    bool slot = q->arg[0] >= 1 && q->arg[0] <= TASKS;
+    uint32_t tid = slot ? (uint32_t)q->arg[0] : 0;
+    if (q->kind == KIND_RECEIVE)
+        return senders->length > 0 ? &k->task[senders->head].message : NULL;
+    if (q->kind == KIND_SEND && is(k, tid, STATE_SEND_BLOCKED))
+        return &k->task[tid].message;
+    if (q->kind == KIND_REPLY && is(k, tid, STATE_REPLY_BLOCKED))
+        return &k->task[tid].reply;
+    return NULL;
+}
+
 static void fill(struct world *w, struct request *q)
 {
     uint64_t *s = &w->seed;
+    const struct table *k = &w->table;
     switch (q->kind) {
     case KIND_CREATE:
         q->arg[0] = chance(s, 4) ? PICK(s, -1, 32, 0, 31, 255, INT32_MIN)
@@ -226,15 +202,15 @@ static void fill(struct world *w, struct request *q)
         break;
     case KIND_SEND:
         q->arg[0] = send_target(w);
-        room(w, q->arg + 1);
+        room_facing(w, q->arg + 1, other_end(k, q));
         room(w, q->arg + 3);
         break;
     case KIND_RECEIVE:
-        room(w, q->arg);
+        room_facing(w, q->arg, other_end(k, q));
         break;
     case KIND_REPLY:
         q->arg[0] = reply_target(w);
-        room(w, q->arg + 1);
+        room_facing(w, q->arg + 1, other_end(k, q));
         break;
     case KIND_AWAIT_EVENT:
         q->arg[0] = some_event(w, 15);
@@ -306,7 +282,7 @@ static void spoil(struct world *w, struct request *q)
             q->arg[i] = odd_number(s);
         break;
     default:
-        bad_room(w, q->arg + below(s, 4), q->arg + 4);
+        room_bad(w, q->arg + below(s, 4), q->arg + 4);
         break;
     }
 }

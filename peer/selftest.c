@@ -31,7 +31,8 @@ static void expect_answer(struct answer got, struct answer want,
     expect(got.verdict == want.verdict && got.next == want.next &&
            got.result.kind == want.result.kind &&
            got.result.number == want.result.number &&
-           got.result.from == want.result.from, what);
+           got.result.from == want.result.from &&
+           got.result.cut == want.result.cut, what);
 }
 
 static void expect_step(int32_t kind, int32_t a, int32_t b,
@@ -46,17 +47,17 @@ static void fresh(void)
     expect(table_start(&k, FIRST_PRIORITY) == 0, "start");
 }
 
-static const struct answer idle = {0, 0, {RESULT_NOTHING, 0, 0}};
+static const struct answer idle = {0, 0, {RESULT_NOTHING, 0, 0, false}};
 
 static struct answer ok(uint32_t next, int32_t number)
 {
     uint32_t kind = number < 0 ? RESULT_FAULT : RESULT_VALUE;
-    return (struct answer){0, next, {kind, number, 0}};
+    return (struct answer){0, next, {kind, number, 0, false}};
 }
 
 static struct answer refused(uint32_t verdict, uint32_t next)
 {
-    return (struct answer){verdict, next, {RESULT_NOTHING, 0, 0}};
+    return (struct answer){verdict, next, {RESULT_NOTHING, 0, 0, false}};
 }
 
 /* ---- the eleven steps, through the byte entry ---- */
@@ -66,10 +67,13 @@ static const struct request first_steps[11] = {
     {8, {1, 0, 3}}, {8, {1, 0, 3}}, {5, {0}}, {6, {2}}, {9, {3}},
     {2, {0}}, {10, {3, 7}}};
 
-static const uint8_t first_answers[11][5] = { /* -1 and -2 as 255 and 254 */
-    {0, 2, 0, 0, 0}, {0, 1, 1, 2, 0}, {0, 1, 0, 0, 0}, {0, 2, 1, 6, 1},
-    {0, 2, 1, 1, 0}, {0, 2, 2, 254, 0}, {0, 1, 1, 3, 0}, {0, 1, 2, 255, 0},
-    {0, 0, 0, 0, 0}, {4, 0, 0, 0, 0}, {0, 1, 1, 7, 0}};
+/* -1 and -2 as 255 and 254. Of six bytes four fit in step 4, of three bytes one
+ * in step 5, whose sender is told in step 7. */
+static const uint8_t first_answers[11][6] = {
+    {0, 2, 0, 0, 0, 0}, {0, 1, 1, 2, 0, 0}, {0, 1, 0, 0, 0, 0},
+    {0, 2, 1, 6, 1, 1}, {0, 2, 1, 1, 0, 1}, {0, 2, 2, 254, 0, 0},
+    {0, 1, 1, 3, 0, 1}, {0, 1, 2, 255, 0, 0}, {0, 0, 0, 0, 0, 0},
+    {4, 0, 0, 0, 0, 0}, {0, 1, 1, 7, 0, 0}};
 
 static void first_run(void)
 {
@@ -139,12 +143,13 @@ static void events(void)
 
 static struct answer plain(uint32_t next)
 {
-    return (struct answer){0, next, {RESULT_NOTHING, 0, 0}};
+    return (struct answer){0, next, {RESULT_NOTHING, 0, 0, false}};
 }
 
-static struct answer ok_from(uint32_t next, int32_t number, uint32_t from)
+static struct answer ok_from(uint32_t next, int32_t number, uint32_t from,
+                             bool cut)
 {
-    return (struct answer){0, next, {RESULT_VALUE, number, from}};
+    return (struct answer){0, next, {RESULT_VALUE, number, from, cut}};
 }
 
 /* A message of this length at 30, and room for a reply of 5 bytes at 40. */
@@ -185,7 +190,7 @@ static void door_closes(void)
     areas[2 * AREA + 30] = 65;
     areas[3 * AREA + 50] = 66;
     areas[3 * AREA + 40] = 67;   /* room for a reply that never comes */
-    expect_step(KIND_RECEIVE, 0, 4, ok_from(1, 4, 3), "one received");
+    expect_step(KIND_RECEIVE, 0, 4, ok_from(1, 4, 3, false), "one received");
     expect_step(KIND_CREATE, 20, 0, ok(1, 6), "one made ready");
     expect_step(KIND_EXIT, 0, 0, plain(6), "who was ready goes on");
     expect_reply(4, ok(4, -2), "first let go");
@@ -233,8 +238,10 @@ static void door_and_others(void)
     expect_step(KIND_EVENT, 7, 0, ok(1, 0), "tid 1 is back");
     expect_step(KIND_EXIT, 0, 0, plain(5), "only 2 let go, behind 5");
     expect_step(KIND_RECEIVE, 0, 4, ok(2, -2), "5 has its sender");
-    expect_step(KIND_RECEIVE, 0, 4, ok_from(5, 6, 4), "2 has its sender");
-    expect_step(KIND_YIELD, 0, 0, ok_from(2, 4, 3), "nobody else was ready");
+    expect_step(KIND_RECEIVE, 0, 4, ok_from(5, 6, 4, true),
+                "2 has its sender");
+    expect_step(KIND_YIELD, 0, 0, ok_from(2, 4, 3, false),
+                "nobody else was ready");
 }
 
 /* Tid 1 active, the others queued at it, tid 32 first, all of priority 5. */
@@ -266,6 +273,7 @@ static struct answer through_image(uint8_t *image, int32_t kind)
     a.result.kind = answer[8];
     a.result.number = (int8_t)answer[12];
     a.result.from = answer[16];
+    a.result.cut = answer[20] == 1;
     return a;
 }
 
@@ -381,6 +389,7 @@ int main(void)
     door_and_others();
     crowd_goes();
     targets();
+    cut_cases();
     clock_cases();
     count_starting();
     return 0;

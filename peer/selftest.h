@@ -7,6 +7,7 @@
 /* Ends the test where something does not hold. */
 void expect(bool holds, const char *what);
 
+void cut_cases(void);
 void clock_cases(void);
 
 #endif

@@ -1,5 +1,5 @@
 /* Draws a run: a row for each step, a column for each task. A row has room for all that its step says, in columns as wide as the
- * longest text of the run, so that nothing need be left out. A long run is cut into blocks, one below the other, each with its heads. */
+ * longest text of the run, so that nothing need be left out. A long run is drawn in blocks, one below the other, each with its heads. */
 #include <string.h>
 #include "timeline.h"
 
@@ -48,12 +48,13 @@ static void say_asked(char *text, size_t room, const struct step *s)
 
 static void say_told(char *text, size_t room, const struct step *s)
 {
+    const char *cut = s->value_cut ? ", cut" : "";
     if (s->told == 'v' && s->from)
-        snprintf(text, room, "v %d from %d", s->value, s->from);
+        snprintf(text, room, "v %d from %d%s", s->value, s->from, cut);
     else if (s->told == '-')
         snprintf(text, room, "-");
     else
-        snprintf(text, room, "%c %d", s->told, s->value);
+        snprintf(text, room, "%c %d%s", s->told, s->value, cut);
 }
 
 static void say_task(char *text, size_t room, int tid, const char *nobody)
@@ -88,7 +89,7 @@ static void row(int number, const struct step *s)
     say_task(text, sizeof text, s->next, "nobody");
     label(at.next, y, SIZE, "", text);
     say_told(text, sizeof text, s);
-    label(at.told, y, SIZE, s->told == 'e' ? BOLD FILL(RED) : "", text);
+    label(at.told, y, SIZE, s->told == 'e' ? BOLD FILL(RED) : s->value_cut ? BOLD : "", text);
 }
 
 /* The heads of a block, and a line under each row. */
@@ -141,7 +142,7 @@ static void deed(int number, const struct step *s)
     int y = y_of(number) + ROW / 2, left = at.lanes - GUTTER + 10, found = 0;
     if (s->effect == 'c') {
         int way = s->taker > s->giver ? 1 : -1;
-        delivery(x_of(s->giver) + way * BAR / 2, x_of(s->taker) - way * BAR / 2, y, s->count);
+        delivery(x_of(s->giver) + way * BAR / 2, x_of(s->taker) - way * BAR / 2, y, s->count, s->delivery_cut);
     }
     if (s->effect == 'w')
         dot(x_of(s->caller), y);
@@ -216,7 +217,7 @@ void draw(FILE *out, const struct run *r)
         block(r, last);
         top = y_of(last + 1) + BETWEEN;
     }
-    if (r->cut)
+    if (r->incomplete)
         label(at.asked, top - BETWEEN + 16, SIZE, MONO BOLD FILL(RED), "end: an incomplete record, refused R5");
     put("</svg>\n");
 }

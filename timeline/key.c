@@ -8,8 +8,11 @@ static const char *const names[] = {"", "active", "ready", "waits in Receive", "
 static const char *const lines[] = {
     "A row is a step: who asks, and for what (at 8 means from byte 8 of the asker's area on); who runs next, and",
     "what that task is told then: - nothing, v 6 the value 6, v 6 from 1 the same from task 1, e -1 the fault -1;",
+    "cut: fewer bytes were delivered than were sent, for want of room;",
     "and the state of each task after the step. Whatever the number of steps, nothing is left out.",
 };
+
+enum { LINES = sizeof lines / sizeof lines[0] };
 
 /* The place of the n-th entry, four in a line. */
 static int x_of(int n)
@@ -37,19 +40,21 @@ void key(void)
     }
     box(x_of(7), y_of(7), SAMPLE, 14, IDLE);
     entry(7, "nobody runs");
-    delivery(x_of(8), x_of(8) + SAMPLE, y_of(8) + 9, 4);
+    delivery(x_of(8), x_of(8) + SAMPLE, y_of(8) + 9, 4, 0);
     entry(8, "4 bytes delivered");
-    event(x_of(9), x_of(9) + SAMPLE, y_of(9) + 7);
-    entry(9, "event, wakes the task");
-    lost(x_of(10) + 6, y_of(10) + 7);
-    entry(10, "event, wakes nobody");
-    bar(x_of(11) + 6, y_of(11) - 1, 16, 16, ACTIVE);
-    dot(x_of(11) + 14, y_of(11) + 7);
-    entry(11, "own write");
-    mark(x_of(12) + 14, y_of(12) + 7, -1);
-    entry(12, "told the fault -1");
-    label(x_of(13), y_of(13) + 11, 11, MONO BOLD FILL(RED), "R4");
-    entry(13, "refused: no change");
-    for (int i = 0; i < 3; i++)
+    delivery(x_of(9), x_of(9) + SAMPLE, y_of(9) + 9, 4, 1);
+    entry(9, "4 bytes delivered, cut");
+    event(x_of(10), x_of(10) + SAMPLE, y_of(10) + 7);
+    entry(10, "event, wakes the task");
+    lost(x_of(11) + 6, y_of(11) + 7);
+    entry(11, "event, wakes nobody");
+    bar(x_of(12) + 6, y_of(12) - 1, 16, 16, ACTIVE);
+    dot(x_of(12) + 14, y_of(12) + 7);
+    entry(12, "own write");
+    mark(x_of(13) + 14, y_of(13) + 7, -1);
+    entry(13, "told the fault -1");
+    label(x_of(14), y_of(14) + 11, 11, MONO BOLD FILL(RED), "R4");
+    entry(14, "refused: no change");
+    for (int i = 0; i < LINES; i++)
         label(LEFT, 132 + 16 * i, 11, "", lines[i]);
 }

@@ -45,7 +45,8 @@ static int result(const char **at, struct step *s)
 {
     s->told = **at;
     if (word(at, "v "))
-        return number(at, 0, INT32_MAX, &s->value) && word(at, " ") && number(at, 0, TASKS, &s->from);
+        return number(at, 0, INT32_MAX, &s->value) && word(at, " ") && number(at, 0, TASKS, &s->from) && word(at, " ")
+               && number(at, 0, 1, &s->value_cut);
     return word(at, "-") || (word(at, "e ") && number(at, -LAST_FAULT, -1, &s->value));
 }
 
@@ -54,7 +55,7 @@ static int effect(const char **at, struct step *s)
     s->effect = **at;
     if (word(at, "c "))
         return number(at, 0, TASKS * AREA, &s->source) && word(at, " ") && number(at, 0, TASKS * AREA, &s->dest) && word(at, " ")
-               && number(at, 0, AREA, &s->count);
+               && number(at, 0, AREA, &s->count) && word(at, " ") && number(at, 0, 1, &s->delivery_cut);
     return word(at, "-") || (word(at, "w ") && number(at, 0, TASKS * AREA - 1, &s->dest));
 }
 
@@ -167,7 +168,7 @@ static int read_step(struct run *r, const struct step *record, FILE *lines)
 static int read_end(struct run *r, FILE *lines)
 {
     char line[LONGEST] = "";
-    if (r->cut && (!fgets(line, sizeof line, lines) || strcmp(line, "end R5\n") != 0)) {
+    if (r->incomplete && (!fgets(line, sizeof line, lines) || strcmp(line, "end R5\n") != 0)) {
         fprintf(stderr, "timeline: the last record is incomplete, and the last line is not 'end R5'\n");
         return 0;
     }
@@ -191,6 +192,6 @@ int read_run(struct run *r, FILE *requests, FILE *lines)
         fprintf(stderr, "timeline: cannot read the records\n");
         return 0;
     }
-    r->cut = length > 0;
+    r->incomplete = length > 0;
     return read_end(r, lines);
 }

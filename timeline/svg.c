@@ -70,8 +70,16 @@ static void head(int x, int y, int way)
     put("<path d=\"M%d %d l%d -4 v8 z\" fill=\"" INK "\"/>\n", x, y, -7 * way);
 }
 
-/* A delivery's count stands at its giver, where the arrow has no head; the arrow is drawn last, over the white around both. */
-void delivery(int from, int end, int y, int count)
+/* Two strokes across an arrow, with white between them: it is broken. They end below the count, which may reach as far. */
+static void broken(int x, int y)
+{
+    put("<path d=\"M%d %dl3 -7h5l-3 7z\" fill=\"#fff\"/>\n", x - 4, y + 5);
+    put("<path d=\"M%d %dl3 -7m5 0l-3 7\" fill=\"none\" stroke=\"" INK "\" stroke-width=\"1.6\"/>\n", x - 4, y + 5);
+}
+
+/* A delivery's count stands at its giver, where the arrow has no head; the arrow is drawn last, over the white around both. One that
+ * was cut is broken before it arrives. */
+void delivery(int from, int end, int y, int count, int cut)
 {
     int way = end > from ? 1 : -1;
     put("<path d=\"M%d %dH%d\" stroke=\"#fff\" stroke-width=\"5\"/>\n", from, y, end);
@@ -79,6 +87,8 @@ void delivery(int from, int end, int y, int count)
         count);
     put("<path d=\"M%d %dH%d\" stroke=\"" INK "\" stroke-width=\"1.6\"/>\n", from, y, end - 5 * way);
     head(end, y, way);
+    if (cut)
+        broken(end - 13 * way, y);
 }
 
 void event(int from, int end, int y)

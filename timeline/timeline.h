@@ -18,9 +18,9 @@ struct step {
     int caller; /* who was active before it; nobody asks for an event */
     int verdict, next;
     char told; /* '-', 'v' or 'e' */
-    int value, from;
+    int value, from, value_cut; /* 1 where the delivery that gave the value was cut */
     char effect; /* '-', 'c' or 'w' */
-    int source, dest, count; /* a write has its place in dest */
+    int source, dest, count, delivery_cut; /* a write has its place in dest */
     int giver, taker; /* of a delivery */
     int used;
     unsigned char state[TASKS + 1], priority[TASKS + 1];
@@ -29,7 +29,7 @@ struct step {
 struct run {
     struct step steps[MOST + 1]; /* before the first stands how the run starts */
     int count;
-    int cut; /* whether the last record is incomplete */
+    int incomplete; /* whether the last record is */
 };
 
 /* read.c: fills in a run; where the two files are not one, says so in a line on standard error and answers 0. */
@@ -39,7 +39,7 @@ int read_run(struct run *r, FILE *requests, FILE *lines);
 void draw(FILE *out, const struct run *r);
 
 /* key.c: what the marks mean, from the top of the picture to KEY_HIGH; it takes KEY_WIDE at least. */
-enum { KEY_WIDE = 716, KEY_HIGH = 176 };
+enum { KEY_WIDE = 716, KEY_HIGH = 192 };
 void key(void);
 
 /* svg.c: the marks. */
@@ -56,7 +56,7 @@ void put(const char *format, ...);
 void label(int x, int y, int size, const char *more, const char *text);
 void box(int x, int y, int w, int h, const char *colour);
 void bar(int x, int y, int w, int h, enum state state);
-void delivery(int from, int end, int y, int count);
+void delivery(int from, int end, int y, int count, int cut);
 void event(int from, int end, int y);
 void lost(int from, int y);
 void mark(int x, int y, int fault);

@@ -25,10 +25,10 @@ use Rattle.rules.specs.Good.{goodResult, isNothing, goodParent, goodState, good
 use Rattle.image.specs.declared.fields.ResultParts.{ResultParts}
 use Rattle.image.specs.Bytes.{numberIn, recordAt}
 use Rattle.image.specs.ResultParts.{resultPartsOf}
-use Rattle.image.specs.Record.{recordLength, atState, atPriority, atParent, atPlace, atAwaited, atMessage, atReply, atSpare, atWord, byteIn, bufferIn, partsOf, partsIn, resultPartsIn, stateFrom, resultOf, usedFrom, taskFrom}
+use Rattle.image.specs.Record.{recordLength, atState, atPriority, atParent, atPlace, atAwaited, atMessage, atReply, atWord, byteIn, bufferIn, partsOf, partsIn, resultPartsIn, stateFrom, resultOf, usedFrom, taskFrom}
 use Rattle.image.specs.Exact.{sameParts, sameResultParts, exactPlace, exactRecord}
 use Rattle.image.proofs.Bytes.{byte-in}
-use Rattle.image.proofs.Made.{tests, eqb-same}
+use Rattle.image.proofs.Made.{tests, eqb-same, cut-exact}
 use Rattle.image.proofs.Rebuilt.{Bytes, number-small}
 use Rattle.audit.specs.Survey.{queueIn}
 use Rattle.audit.specs.Sound.{blankWord, resultSound, noResult, targetSound, unplacedSound, fieldsSound, recordSound}
@@ -47,8 +47,8 @@ unplaced-order e x i p g = simp sorted
 receiver-order : (x i t m r : Bool) → (x && i && (t && m && r)) ≡ (x && true && (m && r && t && true && i))
 receiver-order x i t m r = simp (and-true, sorted)
 
-record-order : (p q z e x k g i : Bool) → (p && q && z && (e && x && k && (g && i))) ≡ (e && x && (k && q) && (p && z && g && i))
-record-order p q z e x k g i = simp sorted
+record-order : (p z e x k g i : Bool) → (p && z && (e && x && k && (g && i))) ≡ (e && x && k && (p && z && g && i))
+record-order p z e x k g i = simp sorted
 
 -- two tests that fail
 skipped : (a b n z : Bool) {two four : Bool} → two ≡ false → four ≡ false → choose two a (n && choose four b z) ≡ (n && z)
@@ -68,14 +68,14 @@ blank-buffer r at =
 -- A result that is exact and good, and one that is exact and nothing, by its kind.
 
 result-sound : (used : ℕ) (o : ResultParts) → o .word < 2 ^ 32
-    → choose (eqb (o .kind) 0) (eqb (o .from) 0 && eqb (o .word) 0)
-    (choose (eqb (o .kind) 1) (ltb (o .word) firstNegative && leb (o .from) used)
-    (eqb (o .kind) 2 && eqb (o .from) 0 && ltb (negated 4) (o .word)))
+    → choose (eqb (o .kind) 0) (eqb (o .from) 0 && eqb (o .cut) 0 && eqb (o .word) 0)
+    (choose (eqb (o .kind) 1) (leb (o .cut) 1 && ltb (o .word) firstNegative && leb (o .from) used)
+    (eqb (o .kind) 2 && eqb (o .from) 0 && eqb (o .cut) 0 && ltb (negated 4) (o .word)))
     ≡ (sameResultParts (resultPartsOf (resultOf o)) o && goodResult used (resultOf o))
 result-sound used o small =
     let kind = o .kind in
     let word = o .word in
-    by-test (eqb kind 1) (λ e. rw (eqb-true kind 1 e) (simp tests))
+    by-test (eqb kind 1) (λ e. rw (eqb-true kind 1 e) (simp (cut-exact, tests)))
     (λ n₁. by-test (eqb kind 2)
     (λ e. rw (eqb-true kind 2 e)
     (by-test (ltb (negated 4) word)
@@ -87,7 +87,8 @@ result-sound used o small =
     (λ n₂. rw (n₁, n₂) (by-test (eqb kind 0) (λ z. simp (tests, z)) (λ z. simp (tests, z)))))
 
 no-result : (o : ResultParts)
-    → (eqb (o .kind) 0 && eqb (o .from) 0 && eqb (o .word) 0) ≡ (sameResultParts (resultPartsOf (resultOf o)) o && isNothing (resultOf o))
+    → (eqb (o .kind) 0 && eqb (o .from) 0 && eqb (o .cut) 0 && eqb (o .word) 0)
+    ≡ (sameResultParts (resultPartsOf (resultOf o)) o && isNothing (resultOf o))
 no-result o =
     let kind = o .kind in
     by-test (eqb kind 1) (λ e. rw (eqb-true kind 1 e) (simp tests))
@@ -163,7 +164,7 @@ module _ (code awaited : ℕ) (message reply : Buffer) where
         skipped (eqb awaited 0 && (m && r) && t) sending n (eqb place 0 && unplacedHeld code awaited message reply m r) n₂ n₄
         ∙ rw (en, unplaced-sound n₂ n₄, not-ready n₂, placed) (unplaced-order exact x i (eqb place 0) (goodState used s st))))
 
--- so what the fields are asked is what the record and its task are asked beside the priority, the parent and the spare byte
+-- so what the fields are asked is what the record and its task are asked beside the priority and the parent
 module _ (used s : ℕ) (r : List ℕ) (small : Bytes r) (none : eqb (byteIn r atState) 0 ≡ false) where
   fields-sound : let o = resultPartsIn r in
       let st = stateFrom (partsIn r) in
@@ -188,7 +189,7 @@ sound-record used s r small some =
     let o = resultPartsIn r in
     let st = stateFrom (partsIn r) in
     rw (none, fields-sound used s r small none)
-    (record-order (ltb (byteIn r atPriority) priorities) (eqb (byteIn r atSpare) 0) (goodParent s (byteIn r atParent))
+    (record-order (ltb (byteIn r atPriority) priorities) (goodParent s (byteIn r atParent))
     (sameParts (partsOf st) (partsIn r)) (sameResultParts (resultPartsOf (resultOf o)) o) (exactPlace (byteIn r atState) (byteIn r atPlace))
     (goodState used s st) (choose (isReady st) (goodResult used (resultOf o)) (isNothing (resultOf o))))
 

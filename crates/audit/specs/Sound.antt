@@ -11,7 +11,7 @@ use Rattle.task.specs.Task.{firstNegative}
 use Rattle.task.specs.Result.{negated}
 use Rattle.rules.specs.Good.{goodParent}
 use Rattle.image.specs.Bytes.{numberIn}
-use Rattle.image.specs.Record.{atState, atPriority, atParent, atPlace, atAwaited, atResult, atMessage, atReply, atFrom, atSpare, atWord, byteIn}
+use Rattle.image.specs.Record.{atState, atPriority, atParent, atPlace, atAwaited, atResult, atMessage, atReply, atFrom, atCut, atWord, byteIn}
 
 -- four bytes that are 0
 abbrev pub blankWord : List ℕ → ℕ → Bool
@@ -21,18 +21,19 @@ blankWord r at = eqb (numberIn r at 4) 0
 abbrev pub fitsArea : List ℕ → ℕ → Bool
 fitsArea r at = leb (numberIn r at 2 + numberIn r (at + 2) 2) areaBytes
 
--- the result of a ready task: nothing, a value that is not negative from a used slot or none, or a fault from -3 to -1
+-- the result of a ready task: nothing, a value that is not negative from a used slot or none, cut or not, or a fault from -3 to -1
 unfoldable pub resultSound : ℕ → List ℕ → Bool
 resultSound used r =
     let kind = byteIn r atResult in
     let from = byteIn r atFrom in
+    let cut = byteIn r atCut in
     let word = numberIn r atWord 4 in
-    choose (eqb kind 0) (eqb from 0 && eqb word 0)
-    (choose (eqb kind 1) (ltb word firstNegative && leb from used)
-    (eqb kind 2 && eqb from 0 && ltb (negated 4) word))
+    choose (eqb kind 0) (eqb from 0 && eqb cut 0 && eqb word 0)
+    (choose (eqb kind 1) (leb cut 1 && ltb word firstNegative && leb from used)
+    (eqb kind 2 && eqb from 0 && eqb cut 0 && ltb (negated 4) word))
 
 abbrev pub noResult : List ℕ → Bool
-noResult r = eqb (byteIn r atResult) 0 && eqb (byteIn r atFrom) 0 && blankWord r atWord
+noResult r = eqb (byteIn r atResult) 0 && eqb (byteIn r atFrom) 0 && eqb (byteIn r atCut) 0 && blankWord r atWord
 
 abbrev pub noBuffers : List ℕ → Bool
 noBuffers r = blankWord r atMessage && blankWord r atReply
@@ -64,4 +65,4 @@ fieldsSound used s r =
 
 unfoldable pub recordSound : ℕ → ℕ → List ℕ → Bool
 recordSound used s r =
-    ltb (byteIn r atPriority) priorities && eqb (byteIn r atSpare) 0 && goodParent s (byteIn r atParent) && fieldsSound used s r
+    ltb (byteIn r atPriority) priorities && goodParent s (byteIn r atParent) && fieldsSound used s r

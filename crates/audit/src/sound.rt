@@ -7,6 +7,7 @@ ghost use Rattle.image.specs.Bytes.{numberIn};
 ghost use Rattle.image.specs.Record.{recordLength};
 ghost use Rattle.audit.specs.Sound.{blankWord, fitsArea, resultSound, noResult, noBuffers, targetSound, unplacedSound, fieldsSound, recordSound};
 use image::fields::AWAITED;
+use image::fields::CUT;
 use image::fields::FAULT;
 use image::fields::FROM;
 use image::fields::MESSAGE;
@@ -17,7 +18,6 @@ use image::fields::PLACE;
 use image::fields::PRIORITY;
 use image::fields::REPLY;
 use image::fields::RESULT;
-use image::fields::SPARE;
 use image::fields::STATE;
 use image::fields::VALUE;
 use image::fields::WORD;
@@ -66,21 +66,22 @@ fn good_result(r: &[u8], used: usize) -> bool
 {
     let kind = r[RESULT];
     let from = r[FROM];
+    let cut = r[CUT];
     let value = word_at(r, WORD);
     if kind == NOTHING {
-        return (from == 0) & (value == 0);
+        return (from == 0) & (cut == 0) & (value == 0);
     }
     if kind == VALUE {
-        return (value < FIRST_NEGATIVE) & (wide(from) <= used);
+        return (cut <= 1) & (value < FIRST_NEGATIVE) & (wide(from) <= used);
     }
-    (kind == FAULT) & (from == 0) & (MINUS_ONE - 3 < value)
+    (kind == FAULT) & (from == 0) & (cut == 0) & (MINUS_ONE - 3 < value)
 }
 
 fn no_result(r: &[u8]) -> bool
     requires { ⌜ length (now r) ≡ recordLength ⌝ }
     ensures { λ x. ⌜ x ≡ noResult (now (r .entry)) ⌝ }
 {
-    (r[RESULT] == NOTHING) & (r[FROM] == 0) & blank_word(r, WORD)
+    (r[RESULT] == NOTHING) & (r[FROM] == 0) & (r[CUT] == 0) & blank_word(r, WORD)
 }
 
 fn no_buffers(r: &[u8]) -> bool
@@ -145,9 +146,6 @@ pub(crate) fn sound(r: &[u8], s: usize, used: usize) -> bool
     ensures { λ x. ⌜ x ≡ recordSound used s (now (r .entry)) ⌝ }
 {
     if PRIORITIES <= wide(r[PRIORITY]) {
-        return false;
-    }
-    if r[SPARE] != 0 {
         return false;
     }
     if !good_parent(r[PARENT], s) {

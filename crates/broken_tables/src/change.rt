@@ -73,6 +73,7 @@ fn changed_task(old: Task, what: u8, n: [u32; NUMBERS]) -> Task {
             state,
             Result::Value {
                 from: second,
+                cut: n[3] == 1,
                 value: n[2],
             },
         ),

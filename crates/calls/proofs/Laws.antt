@@ -20,9 +20,10 @@ use Rattle.entry.specs.Laws.{Tells}
 use Rattle.entry.proofs.Starts.{start-fresh}
 use Rattle.entry.proofs.Laws.{answerTells}
 use Rattle.calls.specs.Calls.{Lent, calls, requestsOf, asCall}
-use Rattle.calls.specs.Laws.{runFrom, CallsAreRun, OthersChangeNothing, EachAnswerTells, HostsAlike, HostBytesHaveOrigins, LinesAlike}
+use Rattle.calls.specs.Laws.{runFrom, CallsAreRun, OthersChangeNothing, EachAnswerTells, HostIsToldOfCuts, HostsAlike, HostBytesHaveOrigins, LinesAlike}
 use Rattle.calls.proofs.Calls.{other-call, calls-run, last-taken}
 use Rattle.calls.proofs.Alike.{same-requests, same-seen}
+use Rattle.calls.proofs.Cuts.{run-cuts}
 
 pub callsAreRun : CallsAreRun
 callsAreRun priority bytes areas ls started =
@@ -41,6 +42,13 @@ each-tells (l ∷ ls) image areas = Forall₂·cons (answerTells image areas (l 
 
 pub eachAnswerTells : EachAnswerTells
 eachAnswerTells priority bytes areas ls = each-tells ls _ areas
+
+pub hostIsToldOfCuts : HostIsToldOfCuts
+hostIsToldOfCuts priority bytes areas ls started size =
+    let (low, _) = start-fresh slotCount priority bytes started in
+    let answerOf : Call → List ℕ = λ c. c .answer in
+    rw (callsAreRun priority bytes areas ls started, map-map answerOf asCall (runFrom priority areas ls))
+    (run-cuts (omega arith) (fresh-good slotCount priority (omega arith) low) areas (requestsOf ls) size)
 
 pub hostsAlike : HostsAlike
 hostsAlike priority bytes bytes′ areas areas′ ls ls′ started started′ size same =

@@ -1,4 +1,5 @@
 mod Calls
 mod Alike
+mod Cuts
 pub mod Laws
 pub mod Determined

@@ -1,20 +1,24 @@
 -- The laws for a host: any list of calls of `kernel_step` on an image that `kernel_start` wrote. Each is a statement; proofs/Laws.antt
 -- proves it under the same name in small letters. `kernel_step` and `kernel_start` promise `called` and `startCalled` of 32 slots.
-use Prim.Native.Nat.{ℕ}
+use Prim.Native.Nat.{ℕ, _*_}
 use mathlib.Core.Path.{_≡_}
 use mathlib.Core.Bool.{Bool, false}
-use mathlib.Core.List.{List, map, Forall₂}
+use mathlib.Core.List.{List, [], map, Forall₂}
 use lib.ListN.{length}
-use Rattle.tid.specs.Sizes.{slotCount}
+use Rattle.tid.specs.Sizes.{slotCount, areaBytes}
+use Rattle.tid.specs.Tid.{slotNamed}
+use Rattle.task.specs.Result.{bit}
 use Rattle.kernel.specs.declared.table.Table.{Table}
 use Rattle.kernel.specs.Numbers.{accepted}
 use Rattle.rules.specs.Fresh.{fresh}
 use Rattle.step.specs.Run.{Done, run, lastOf}
-use Rattle.image.specs.Call.{requestFrom, answerLength}
+use Rattle.image.specs.Bytes.{numberIn}
+use Rattle.image.specs.Call.{requestFrom, answerLength, atNext, atKind, atCutWord}
 use Rattle.lines.specs.Block.{requests, linesFrom}
 use Rattle.laws.specs.Same.{SameButWrite, SameButWrites}
 use Rattle.laws.specs.Movement.{movements}
 use Rattle.laws.specs.Origin.{origins, valueOf}
+use Rattle.laws.specs.Cut.{lastIsShort}
 use Rattle.entry.specs.Entry.{Call, called, startCalled}
 use Rattle.entry.specs.Laws.{Tells}
 use Rattle.calls.specs.Calls.{Lent, calls, isTaken, ofTaken, requestsOf, asCall}
@@ -50,6 +54,17 @@ abbrev pub EachAnswerTells : Type 0
 EachAnswerTells =
     (priority : ℕ) (bytes areas : List ℕ) (ls : List Lent)
     → Forall₂ (λ l c. length (l .answer) ≡ answerLength → Tells c) ls (callsFrom priority bytes areas ls)
+
+-- A host is told of every cut: where the last answer tells a value, its last word is 1 if the delivery that gave the value copied fewer
+-- bytes than the length sent, and else 0.
+-- Ruled out: an entry that forgets in the stored record that a delivery was cut, and one that says so of another task's.
+abbrev pub HostIsToldOfCuts : Type 0
+HostIsToldOfCuts =
+    (priority : ℕ) (bytes areas : List ℕ) (ls : List Lent) → Started priority bytes → length areas ≡ slotCount * areaBytes
+    → let u = runFrom priority areas ls in
+    let answer = lastOf [] (map (λ c. c .answer) (ofTaken ls (callsFrom priority bytes areas ls))) in
+    numberIn answer atKind 4 ≡ 1
+    → numberIn answer atCutWord 4 ≡ bit (lastIsShort (fresh slotCount priority) (slotNamed (numberIn answer atNext 4)) u)
 
 -- two calls that differ only in a byte to be written: requests of one length that ask the same, or two own writes of bytes at one offset;
 -- and the same room for the answer

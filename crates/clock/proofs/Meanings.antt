@@ -92,11 +92,11 @@ refusal-read status count n low high same none =
     ]
 
 pub said-is-meant : SaidIsMeant
-said-is-meant q (Count count) from fits may =
+said-is-meant q (Count count) from cut fits may =
     ap (fitting q) (count-read 0 (numberIn (answerBytes (Count count)) 4 4) refl)
     ∙ ap (λ (k : ℕ). fitting q (Meant.Count k)) (number-back 4 count fits)
     ∙ rw may
-said-is-meant q (Refused n) from fits may =
+said-is-meant q (Refused n) from cut fits may =
     ap (λ (w : ℕ). fitting q (wordsMean w 0)) (number-back 4 (negated n) (omega arith))
     ∙ rw (refusal-read (negated n) 0 n (fits .0) (fits .1) refl refl, may)
 
@@ -119,8 +119,8 @@ fitting-means q o bytes Meant.Garbled eight r = tt
 means : (q : Asked) (o : Result) (bytes : List ℕ) → Means q o bytes (meaning q o bytes)
 means q Nothing bytes = tt
 means q (Fault f) bytes = tt
-means q (Value from v) bytes =
-    let o : Result = Value from v in
+means q (Value from cut v) bytes =
+    let o : Result = Value from cut v in
     let status = numberIn bytes 0 4 in
     let count = numberIn bytes 4 4 in
     chosen (Means q o bytes) (not (eqb v size)) (λ _. tt)
@@ -131,7 +131,7 @@ meant-so : (q : Asked) (o : Result) (bytes : List ℕ) (m : Meaning) → isAnswe
     → wordsMean (numberIn bytes 0 4) (numberIn bytes 4 4) ≡ m → meaning q o bytes ≡ fitting q m
 meant-so q Nothing bytes m answer read = absurd (false≢true answer)
 meant-so q (Fault f) bytes m answer read = absurd (false≢true answer)
-meant-so q (Value from v) bytes m answer read = rw answer (ap (fitting q) read)
+meant-so q (Value from cut v) bytes m answer read = rw answer (ap (fitting q) read)
 
 pub counts-apart : CountsApart
 counts-apart q o bytes count = (

@@ -59,7 +59,7 @@ AskedIsRead = (q : Asked) → argumentOf q < 2 ^ 32 → askedIn size (requestByt
 -- whether a result is a value as long as an answer
 abbrev pub isAnswer : Result → Bool
 isAnswer Nothing = false
-isAnswer (Value from v) = eqb v size
+isAnswer (Value from cut v) = eqb v size
 isAnswer (Fault f) = false
 
 -- whether the clock may say this to a message that asks q
@@ -80,8 +80,8 @@ AnswersFit =
 -- Ruled out: a client that calls every refusal garbled, and one that reads the count from the first word.
 abbrev pub SaidIsMeant : Type 0
 SaidIsMeant =
-    (q : Asked) (said : Said) (from : ℕ) → Proper said → saidFits q said ≡ true
-    → meaning q (Value from size) (answerBytes said) ≡ meantBy said
+    (q : Asked) (said : Said) (from : ℕ) (cut : Bool) → Proper said → saidFits q said ≡ true
+    → meaning q (Value from cut size) (answerBytes said) ≡ meantBy said
 
 -- A count is read exactly from an answer of eight bytes with status 0, is the count in it, and is one that the clock may answer; so no
 -- refusal, no fault of the kernel and no answer of another length is ever taken for a count, whatever the count is.

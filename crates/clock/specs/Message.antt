@@ -113,7 +113,7 @@ fitting q Meant.Garbled = Meant.Garbled
 abbrev pub meaning : Asked → Result → List ℕ → Meaning
 meaning q Told.Nothing bytes = Meant.Garbled
 meaning q (Told.Fault f) bytes = Meant.Fault f
-meaning q (Told.Value from v) bytes =
+meaning q (Told.Value from cut v) bytes =
     choose (not (eqb v size)) Meant.Garbled (fitting q (wordsMean (numberIn bytes 0 4) (numberIn bytes 4 4)))
 
 -- what the client is to make of what the clock says

@@ -135,7 +135,11 @@ pub fn meant(asked: Asked, result: Result, bytes: &[u8]) -> Meaning
     match result {
         Result::Nothing => Meaning::Garbled,
         Result::Fault(f) => Meaning::Fault(f),
-        Result::Value { from: _, value } => {
+        Result::Value {
+            from: _,
+            cut: _,
+            value,
+        } => {
             if value != SIZE {
                 return Meaning::Garbled;
             }

@@ -86,9 +86,9 @@ module _ (s : Server) (sound : Sound s) where
 
   told-so : (o : Result) (area : List ℕ) → asServing (told s o area) ≡ Service.told clockService (asServing s) o area
   told-so Nothing area = refl
-  told-so (Value from v) area = go (s .phase)
+  told-so (Value from cut v) area = go (s .phase)
     where
-      go : (p : Phase) → asServing (valueIn p s from v area) ≡ Service.valueIn clockService p (asServing s) from v area
+      go : (p : Phase) → asServing (valueIn p s from v area) ≡ Service.valueIn clockService p (asServing s) from cut v area
       go Making = refl
       go Made = refl
       go (Writing k) = refl

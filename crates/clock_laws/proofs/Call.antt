@@ -76,7 +76,7 @@ module _ (clock offset : ℕ) (q : Question.Asked) where
 
   answered-goes : (s : Client) (o : Result) (area : List ℕ) → C s → s .stage ≡ Sent → Goes Sent (answeredIn s o area)
   answered-goes s Nothing area calls e = (calls, rw e (omega arith))
-  answered-goes s (Value from v) area calls e = (record { to = calls .to; question = calls .question; at = calls .at; low = tt }, omega arith)
+  answered-goes s (Value from cut v) area calls e = (record { to = calls .to; question = calls .question; at = calls .at; low = tt }, omega arith)
   answered-goes s (Fault f) area calls e = (record { to = calls .to; question = calls .question; at = calls .at; low = tt }, omega arith)
 
   told-goes : (s : Client) (o : Result) (area : List ℕ) → C s → (p : Stage) → s .stage ≡ p → Goes p (toldIn p s o area)

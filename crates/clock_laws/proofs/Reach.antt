@@ -1,7 +1,7 @@
 -- The clock's answer reaches the one who sleeps, and means what was said.
 use Prim.Native.Nat.{ℕ, _≤_}
 use mathlib.Core.Path.{_≡_, ap, subst⁻¹, _∙_}
-use mathlib.Core.Bool.{true}
+use mathlib.Core.Bool.{true, false}
 use mathlib.Core.List.{List}
 use Rattle.tid.specs.Tid.{slotNamed}
 use Rattle.task.specs.declared.task.Buffer.{Buffer}
@@ -33,7 +33,7 @@ Reaching g rs′ r b asleep now =
     Obeys (serving clockService) g asleep rs′
     → 1 ≤ r .arg0 → taskAt (asleep .table) x .state ≡ ReplyBlocked b → size ≤ b .len → NoReplyTo (r .arg0) (Run.run (asleep .table) (asleep .areas) rs′)
     → asksNow g now r ≡ true → r ≡ request clockService (now .state) → r .kind ≡ replyKind
-    → Gets x (Value 0 size) (decided now r) × (bytesIn (r .arg0) (b .start) size (areasAfter now r) ≡ now .state .answer)
+    → Gets x (Value 0 false size) (decided now r) × (bytesIn (r .arg0) (b .start) size (areasAfter now r) ≡ now .state .answer)
 
 pub answer-reaches : AnswerReaches
 answer-reaches n g priority w rs rs′ r b q begins new obeys obeys′ some blocked enough never asks same kind fits =
@@ -47,4 +47,4 @@ answer-reaches n g priority w rs rs′ r b q begins new obeys obeys′ some bloc
     subst⁻¹ (λ (a : World (Serving Clock)). Reaching g rs′ r b a (ended (serving clockService) g a rs′)) (ended-so g rs w sound) all in
     let (gets, bytes) = subst⁻¹ (Reaching g rs′ r b (served asleep)) (ended-so g rs′ asleep then) here
     (obeys-so g rs′ asleep then obeys′) some blocked enough never asks (same ∙ asks-so (now .state) last) kind in
-    (gets, ap (meaning q (Value 0 size)) bytes ∙ saidIsMeant q (now .state .said) 0 (last .said) fits)
+    (gets, ap (meaning q (Value 0 false size)) bytes ∙ saidIsMeant q (now .state .said) 0 false (last .said) fits)

@@ -108,7 +108,7 @@ heard-sound s from v area old =
 
 pub told-sound : (s : Server) (o : Result) (area : List ℕ) → Sound s → Sound (told s o area)
 told-sound s Nothing area old = old
-told-sound s (Value from v) area old = go (s .phase)
+told-sound s (Value from cut v) area old = go (s .phase)
   where
     go : (p : Phase) → Sound (valueIn p s from v area)
     go Making = old

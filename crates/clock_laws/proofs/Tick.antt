@@ -102,7 +102,7 @@ fails-goes s f Sent e low = (tt, omega arith)
 
 told-goes : (s : Notifier) (o : Result) → Low (s .duty) → Goes (s .duty) (told s o)
 told-goes s Nothing low = (low, omega arith)
-told-goes s (Value from v) low = hears-goes s v (s .duty) refl low
+told-goes s (Value from cut v) low = hears-goes s v (s .duty) refl low
 told-goes s (Fault f) low = fails-goes s f (s .duty) refl low
 
 ticks-write : Writes notifierMachine (λ s. s .clock) 0 (requestBytes Tick) (λ s. Low (s .duty)) (λ s. writtenIn (s .duty))

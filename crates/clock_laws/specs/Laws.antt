@@ -3,7 +3,7 @@
 use Prim.Native.Nat.{ℕ, _≤_, _<_}
 use mathlib.Core.Path.{_≡_}
 use mathlib.Core.Logic.{_⊎_}
-use mathlib.Core.Bool.{true}
+use mathlib.Core.Bool.{true, false}
 use mathlib.Core.List.{List, [], _++_, map, flatten}
 use Rattle.tid.specs.Tid.{slotNamed}
 use Rattle.task.specs.declared.task.Buffer.{Buffer}
@@ -82,8 +82,8 @@ AnswerReaches =
     Obeys clockMachine g asleep rs′
     → 1 ≤ r .arg0 → taskAt (asleep .table) x .state ≡ ReplyBlocked b → size ≤ b .len → NoReplyTo (r .arg0) (Run.run (asleep .table) (asleep .areas) rs′)
     → asksNow g now r ≡ true → r ≡ clockMachine .request (now .state) → r .kind ≡ replyKind → saidFits q (now .state .said) ≡ true
-    → Gets x (Value 0 size) (decided now r)
-    × (meaning q (Value 0 size) (bytesIn (r .arg0) (b .start) size (areasAfter now r)) ≡ meantBy (now .state .said))
+    → Gets x (Value 0 false size) (decided now r)
+    × (meaning q (Value 0 false size) (bytesIn (r .arg0) (b .start) size (areasAfter now r)) ≡ meantBy (now .state .said))
 
 -- A call is sent as it was asked: whenever what the client is to ask is its Send, that goes to the clock that it was told of, and the message's bytes
 -- stand in its own area, whatever others do meanwhile.

@@ -212,7 +212,7 @@ fitting-sound q Garbled h = tt
 meaning-sound : (q : Asked) (o : Result) (bytes : List ℕ) → Kept.Told o → ((i : ℕ) → getD bytes i 0 < 256) → Sound (meaning q o bytes)
 meaning-sound q Told.Nothing bytes t b = tt
 meaning-sound q (Told.Fault f) bytes t b = t
-meaning-sound q (Told.Value from v) bytes t b =
+meaning-sound q (Told.Value from cut v) bytes t b =
     let status = numberIn bytes 0 4 in
     let count = numberIn bytes 4 4 in
     chosen Sound (not (eqb v size)) (λ _. tt)
@@ -232,7 +232,7 @@ ended-rule {s} h o area t found =
 
 answered-rule : {s : Client} → Rule s → (o : Result) (area : List ℕ) → Kept.Told o → Every (λ x. x < 256) area → Rule (Spec.answeredIn s o area)
 answered-rule h Told.Nothing area t found = h
-answered-rule h (Told.Value from v) area t found = ended-rule h (Told.Value from v) area t found
+answered-rule h (Told.Value from cut v) area t found = ended-rule h (Told.Value from cut v) area t found
 answered-rule h (Told.Fault f) area t found = ended-rule h (Told.Fault f) area t found
 
 told-rule : {s : Client} → Rule s → (stage : Stage) (o : Result) (area : List ℕ) → Kept.Told o → Every (λ x. x < 256) area

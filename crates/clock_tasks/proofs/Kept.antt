@@ -16,7 +16,7 @@ use Rattle.task.specs.Result.{negated}
 use Rattle.kernel.specs.Numbers.{accepted, noneActive}
 use Rattle.step.specs.Every.{Every, none, more, numbers}
 use Rattle.image.specs.Bytes.{bytesOf, numberIn}
-use Rattle.image.specs.Call.{requestLength, answerLength, atKind, atValue, atSender, answerFrom}
+use Rattle.image.specs.Call.{requestLength, answerLength, atKind, atValue, atSender, atCutWord, answerFrom}
 use Rattle.image.proofs.Bytes.{number-tail, number-back}
 use Rattle.image.proofs.Rebuilt.{number-small}
 use Rattle.server.specs.Records.{requestBytes, resultIn}
@@ -63,7 +63,7 @@ words-back (more {x} {xs = ws} small rest) =
 -- a result of the kernel's: a tid is a byte, a value a word, a fault 1, 2 or 3
 abbrev pub Told : Result → Type 0
 Told Nothing = Unit
-Told (Value from v) = (from < 256) × Word v
+Told (Value from cut v) = (from < 256) × Word v
 Told (Fault f) = (1 ≤ f) × (f ≤ 3)
 
 -- bytes, at each place
@@ -81,11 +81,12 @@ told-in {answer} bytes =
     let small = number-small 4 atValue answer (byte-at bytes) in
     by-test (ltb 255 kind) (λ e. rw e tt)
     (λ e. by-test (ltb 255 from) (λ f. rw (e, f) tt)
-    (λ f. by-test (eqb kind 1) (λ v. rw (e, f, v) (omega (arith, ltb-false 255 from f), small))
+    (λ f. by-test (ltb 1 (numberIn answer atCutWord 4)) (λ g. rw (e, f, g) tt)
+    (λ g. by-test (eqb kind 1) (λ v. rw (e, f, g, v) (omega (arith, ltb-false 255 from f), small))
     (λ v. by-test (eqb kind 2)
-    (λ w. by-test (ltb (negated 4) word) (λ l. rw (e, f, v, w, l) (omega (arith, ltb-true (negated 4) word l), omega (arith, ltb-true (negated 4) word l)))
-    (λ l. rw (e, f, v, w, l) tt))
-    (λ w. rw (e, f, v, w) tt))))
+    (λ w. by-test (ltb (negated 4) word) (λ l. rw (e, f, g, v, w, l) (omega (arith, ltb-true (negated 4) word l), omega (arith, ltb-true (negated 4) word l)))
+    (λ l. rw (e, f, g, v, w, l) tt))
+    (λ w. rw (e, f, g, v, w) tt)))))
 
 -- THE ARGUMENT
 

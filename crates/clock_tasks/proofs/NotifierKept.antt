@@ -90,7 +90,7 @@ fails-rule h Sent f = with-duty h Awaiting (omega arith)
 
 told-rule : {s : Notifier} → Rule s → (o : Result) → Told o → Rule (Spec.told s o)
 told-rule h Nothing t = h
-told-rule {s} h (Value from v) t = hears-rule h (s .duty) (t .1)
+told-rule {s} h (Value from cut v) t = hears-rule h (s .duty) (t .1)
 told-rule {s} h (Fault f) t = fails-rule h (s .duty) f
 
 pub notifier-keeps : Keeps notifierMachine words notifierWords notifierFrom isNotifier Rule

@@ -264,5 +264,5 @@ module _ {s : Server} (h : Sane s) where
 
   pub sane-told : (o : Result) (area : List ℕ) → Told o → Every (λ x. x < 256) area → Sane (told s o area)
   sane-told Nothing area t bytes = h
-  sane-told (Value from v) area t bytes = sane-value (s .phase) from v (t .0) (t .1) bytes
+  sane-told (Value from cut v) area t bytes = sane-value (s .phase) from v (t .0) (t .1) bytes
   sane-told (Fault f) area t bytes = sane-fault (s .phase)

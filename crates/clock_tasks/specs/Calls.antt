@@ -1,5 +1,5 @@
 -- What each exported function returns, and leaves of the bytes that were lent. Refusals have the kernel's numbers where they mean the same, and
--- a refused call writes nothing: 5 room for a request that is not 24 bytes, 10 an answer that is not 20 (or room for an outcome that is not 8),
+-- a refused call writes nothing: 5 room for a request that is not 24 bytes, 10 an answer that is not 24 (or room for an outcome that is not 8),
 -- 1 an area that is not 256, 7 a state of another length, 2 bytes that are no state; at a start 6 the priority, 8 the event, 3 what is no call,
 -- 9 the offset; and 4 where a call that is over is asked what it asks.
 use Prim.Native.Nat.{ℕ, _*_}

@@ -57,7 +57,7 @@ ended s o area =
 -- only what it is told once it has sent ends it
 abbrev pub answeredIn : Client → Result → List ℕ → Client
 answeredIn s Nothing area = s
-answeredIn s (Value from v) area = ended s (Value from v) area
+answeredIn s (Value from cut v) area = ended s (Value from cut v) area
 answeredIn s (Fault f) area = ended s (Fault f) area
 
 abbrev pub toldIn : Stage → Client → Result → List ℕ → Client

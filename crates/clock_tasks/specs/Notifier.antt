@@ -72,5 +72,5 @@ fails s Sent f = withDuty s Awaiting
 
 abbrev pub told : Notifier → Result → Notifier
 told s Nothing = s
-told s (Value from v) = hears s (s .duty) v
+told s (Value from cut v) = hears s (s .duty) v
 told s (Fault f) = fails s (s .duty) f

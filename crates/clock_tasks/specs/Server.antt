@@ -70,7 +70,7 @@ faultIn Listening s = s
 
 abbrev pub told : Server → Result → List ℕ → Server
 told s Nothing area = s
-told s (Value from v) area = valueIn (s .phase) s from v area
+told s (Value from cut v) area = valueIn (s .phase) s from v area
 told s (Fault f) area = faultIn (s .phase) s
 
 -- THE SAME AS A SERVICE, of which crates/served proves what holds of every one in a run of the kernel
@@ -78,7 +78,7 @@ told s (Fault f) area = faultIn (s .phase) s
 -- the notifier's tid, by what Create told
 abbrev pub madeTid : Result → ℕ
 madeTid Nothing = 0
-madeTid (Value from v) = v
+madeTid (Value from cut v) = v
 madeTid (Fault f) = 0
 
 abbrev pub clockService : Service Clock

@@ -86,7 +86,11 @@ impl Client {
             Stage::Sending => self,
             Stage::Sent => match result {
                 Result::Nothing => self,
-                Result::Value { from: _, value: _ } => self.ended(result, area),
+                Result::Value {
+                    from: _,
+                    cut: _,
+                    value: _,
+                } => self.ended(result, area),
                 Result::Fault(_) => self.ended(result, area),
             },
             Stage::Ended => self,

@@ -91,7 +91,11 @@ impl Notifier {
         let duty = self.duty;
         match result {
             Result::Nothing => self,
-            Result::Value { from: _, value } => self.hears(duty, value),
+            Result::Value {
+                from: _,
+                cut: _,
+                value,
+            } => self.hears(duty, value),
             Result::Fault(f) => self.fails(duty, f),
         }
     }

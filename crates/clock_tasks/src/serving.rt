@@ -103,7 +103,11 @@ impl Server {
         let phase = self.phase;
         match result {
             Result::Nothing => self,
-            Result::Value { from, value } => match phase {
+            Result::Value {
+                from,
+                cut: _,
+                value,
+            } => match phase {
                 Phase::Making => self,
                 Phase::Made => self.opened(value),
                 Phase::Writing(_) => self,

@@ -36,7 +36,7 @@ pub(crate) fn wrong(tid: u8, state: u8, at: u8, old: u8) -> u8 {
         6 | 8 | 10 | 12 => 255,
         7 | 9 | 11 | 13 => 2,
         14 => FIRST_UNUSED,
-        15 => 1,
+        15 => 2,
         16 => 252,
         17 | 18 => beside(old),
         _ => 128,

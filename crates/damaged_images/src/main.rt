@@ -5,10 +5,12 @@ mod records;
 mod whole;
 
 use crate::busy::busy;
+use crate::records::write_cuts;
 use crate::records::write_records;
 use crate::whole::write_wholes;
 
 fn main() {
     write_records(busy());
+    write_cuts(busy());
     write_wholes(busy());
 }

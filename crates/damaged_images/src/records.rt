@@ -4,6 +4,7 @@ use crate::damage::RECORD;
 use crate::damage::breaks;
 use crate::damage::good_values;
 use crate::damage::wrong;
+use image::fields::CUT;
 use image::stored::IMAGE;
 use libc::STDOUT_FILENO;
 use queue::wide;
@@ -76,4 +77,23 @@ pub(crate) fn write_records(image: [u8; IMAGE]) {
         write_record(image, tid);
         tid += 1;
     }
+}
+
+// How many bytes are good where a record says whether its value was cut.
+fn write_cut(image: [u8; IMAGE], tid: u8, beside: &[u8]) {
+    io::write_all(STDOUT_FILENO, b"at 15, beside ");
+    io::write_all(STDOUT_FILENO, beside);
+    io::write_all(STDOUT_FILENO, b", ");
+    io::print_decimal(
+        STDOUT_FILENO,
+        good_values(image, slot_named(tid) * RECORD + CUT),
+    );
+    io::write_all(STDOUT_FILENO, b" of 256 are good\n");
+}
+
+// Of three ready tasks, of which the first holds a value, the second a fault and the third nothing.
+pub(crate) fn write_cuts(image: [u8; IMAGE]) {
+    write_cut(image, 1, b"a value");
+    write_cut(image, 8, b"a fault");
+    write_cut(image, 12, b"nothing");
 }

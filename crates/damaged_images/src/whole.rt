@@ -70,7 +70,7 @@ fn random() -> [u8; IMAGE] {
     bytes
 }
 
-fn write_cut(name: &[u8], long: [u8; IMAGE + 1], len: usize) {
+fn write_part(name: &[u8], long: [u8; IMAGE + 1], len: usize) {
     let mut image = long;
     write_first(name, &mut image, len);
 }
@@ -90,9 +90,9 @@ pub(crate) fn write_wholes(image: [u8; IMAGE]) {
     let mut unbroken = image;
     let mut at_another = sent_to(image, 12);
     let mut at_exited = sent_to(image, 5);
-    write_cut(b"no byte", long, 0);
-    write_cut(b"639 bytes", long, IMAGE - 1);
-    write_cut(b"641 bytes", long, IMAGE + 1);
+    write_part(b"no byte", long, 0);
+    write_part(b"639 bytes", long, IMAGE - 1);
+    write_part(b"641 bytes", long, IMAGE + 1);
     write_whole(b"all zero", &mut zeros);
     write_whole(b"random bytes", &mut noise);
     write_whole(b"the unbroken image", &mut unbroken);

@@ -7,6 +7,7 @@ use image::stored::IMAGE;
 use kernel::numbers::CREATE;
 use kernel::numbers::OWN_WRITE;
 use kernel::numbers::RECEIVE;
+use kernel::numbers::REPLY;
 use kernel::numbers::SEND;
 use libc::STDOUT_FILENO;
 use tid::sizes::AREA;
@@ -118,4 +119,6 @@ fn main() {
     first(sent);
     second(sent);
     received(sent);
+    let replied = asked(sent, REPLY as u8, 1, 0, 3, 0, 0);
+    first(replied);
 }

@@ -21,8 +21,8 @@ use Rattle.image.specs.declared.fields.ResultParts.{ResultParts}
 use Rattle.image.specs.Bytes.{bytesOf, numberIn, same}
 use Rattle.task.specs.Result.{negated, resultWord}
 use Rattle.image.specs.ResultParts.{resultPartsOf}
-use Rattle.image.specs.Record.{recordLength, atState, atPriority, atParent, atPlace, atAwaited, atResult, atMessage, atReply, atFrom, atSpare, atWord, byteIn, bufferIn, bufferBytes, partsOf, partsIn, resultPartsIn, stateFrom, resultOf, fields, taskRecord, usedFrom, taskFrom, placeFrom}
-use Rattle.image.specs.Exact.{sameParts, sameResultParts, exactRest, exactUsed, exactRecord}
+use Rattle.image.specs.Record.{recordLength, atState, atPriority, atParent, atPlace, atAwaited, atResult, atMessage, atReply, atFrom, atCut, atWord, byteIn, bufferIn, bufferBytes, partsOf, partsIn, resultPartsIn, stateFrom, resultOf, fields, taskRecord, usedFrom, taskFrom, placeFrom}
+use Rattle.image.specs.Exact.{sameParts, sameResultParts, exactPlace, exactUsed, exactRecord}
 use Rattle.image.proofs.Made.{record-made, eqb-same}
 use Rattle.image.proofs.Bytes.{number-back, same-true, same-refl}
 
@@ -53,12 +53,12 @@ number-small zero at r small = omega arith
 number-small (suc k) at r small = omega (arith, small at, number-small k (suc at) r small, pow-step 256 k)
 
 -- the numbers of a record, written again
-rebuilt : (r : List ℕ) (place spare : ℕ) → length r ≡ recordLength → Bytes r → place ≡ byteIn r atPlace → spare ≡ byteIn r atSpare
+rebuilt : (r : List ℕ) (place : ℕ) → length r ≡ recordLength → Bytes r → place ≡ byteIn r atPlace
     → byteIn r atState ∷ byteIn r atPriority ∷ byteIn r atParent ∷ place ∷ byteIn r atAwaited ∷ byteIn r atResult
     ∷ (bufferBytes (bufferIn r atMessage) ++ bufferBytes (bufferIn r atReply))
-    ++ (byteIn r atFrom ∷ spare ∷ bytesOf 4 (numberIn r atWord 4))
+    ++ (byteIn r atFrom ∷ byteIn r atCut ∷ bytesOf 4 (numberIn r atWord 4))
     ≡ r
-rebuilt r place spare size small p q =
+rebuilt r place size small p =
     let m₁ = bytes-back 2 6 r small in
     let m₂ = bytes-back 2 8 r small in
     let r₁ = bytes-back 2 10 r small in
@@ -66,7 +66,7 @@ rebuilt r place spare size small p q =
     let w = bytes-back 4 16 r small in
     let again : _ ≡ listed 20 0 r =
     λ i. byteIn r atState ∷ byteIn r atPriority ∷ byteIn r atParent ∷ p i ∷ byteIn r atAwaited ∷ byteIn r atResult
-    ∷ ((m₁ i ++ m₂ i) ++ (r₁ i ++ r₂ i)) ++ (byteIn r atFrom ∷ q i ∷ w i) in
+    ∷ ((m₁ i ++ m₂ i) ++ (r₁ i ++ r₂ i)) ++ (byteIn r atFrom ∷ byteIn r atCut ∷ w i) in
     again ∙ listed-drop 20 0 r size
 
 -- the place that a record's task is written with
@@ -100,12 +100,14 @@ same-parts p q h =
 
 same-result-parts : (p q : ResultParts) → sameResultParts p q ≡ true → p ≡ q
 same-result-parts p q h =
-    let (h₂, e₃) = both-true _ _ h in
+    let (h₃, e₄) = both-true _ _ h in
+    let (h₂, e₃) = both-true _ _ h₃ in
     let (e₁, e₂) = both-true _ _ h₂ in
     λ i. record {
       kind = eqb-true (p .kind) (q .kind) e₁ i;
       from = eqb-true (p .from) (q .from) e₂ i;
-      word = eqb-true (p .word) (q .word) e₃ i;
+      cut = eqb-true (p .cut) (q .cut) e₃ i;
+      word = eqb-true (p .word) (q .word) e₄ i;
     }
 
 same-parts-refl : (p : Parts) → sameParts p p ≡ true
@@ -184,9 +186,8 @@ module _ (r : List ℕ) (size : length r ≡ recordLength) (small : Bytes r) whe
         let p = partsOf (stateFrom (partsIn r)) in
         let o = resultPartsOf (resultOf (resultPartsIn r)) in
         let queued = eqb (byteIn r atState) 2 || eqb (byteIn r atState) 4 in
-        let (front, rest) = both-true (sameParts p (partsIn r) && sameResultParts o (resultPartsIn r)) (exactRest r) h in
+        let (front, places) = both-true (sameParts p (partsIn r) && sameResultParts o (resultPartsIn r)) (queued || eqb (byteIn r atPlace) 0) h in
         let (parts-same, told-same) = both-true (sameParts p (partsIn r)) (sameResultParts o (resultPartsIn r)) front in
-        let (places, spare) = both-true (queued || eqb (byteIn r atPlace) 0) (eqb (byteIn r atSpare) 0) rest in
         let parts : p ≡ partsIn r = same-parts p (partsIn r) parts-same in
         let told : o ≡ resultPartsIn r = same-result-parts o (resultPartsIn r) told-same in
         let code : stateCode (stateFrom (partsIn r)) ≡ byteIn r atState = ap (λ (q : Parts). q .code) parts in
@@ -195,7 +196,7 @@ module _ (r : List ℕ) (size : length r ≡ recordLength) (small : Bytes r) whe
         (by-test queued (λ e. rw e) (λ e. rw e (sym (eqb-true (byteIn r atPlace) 0 (rw e at places))))) in
         used-fields (usedFrom r) (placeKept r (usedFrom r)) (rw code (lt-ltb 0 (byteIn r atState) (omega (arith, some))))
         ∙ sym (record-made (usedFrom r) (placeKept r (usedFrom r)) (partsIn r) (resultPartsIn r) (sym parts) (sym told))
-        ∙ rebuilt r (placeKept r (usedFrom r)) 0 size small place (sym (eqb-true (byteIn r atSpare) 0 spare))
+        ∙ rebuilt r (placeKept r (usedFrom r)) size small place
 
     fields-exact : fields (usedFrom r) (placeKept r (usedFrom r)) ≡ r → exactUsed r ≡ true
     unfolding usedFrom
@@ -211,16 +212,15 @@ module _ (r : List ℕ) (size : length r ≡ recordLength) (small : Bytes r) whe
         let r₂ = sym (number-back 2 (replyOf st .len) (fits .reply-len)) ∙ two 12 in
         let parts : partsOf st ≡ partsIn r =
         λ i. record { code = at 0 i; awaited = at 4 i; message = record { start = m₁ i; len = m₂ i }; reply = record { start = r₁ i; len = r₂ i } } in
-        let told : resultPartsOf (resultOf (resultPartsIn r)) ≡ resultPartsIn r = λ i. record { kind = at 5 i; from = at 14 i; word = word i } in
+        let told : resultPartsOf (resultOf (resultPartsIn r)) ≡ resultPartsIn r = λ i. record { kind = at 5 i; from = at 14 i; cut = at 15 i; word = word i } in
         let same-p : sameParts (partsOf st) (partsIn r) ≡ true = ap (λ (q : Parts). sameParts q (partsIn r)) parts ∙ same-parts-refl (partsIn r) in
         let same-o : sameResultParts (resultPartsOf (resultOf (resultPartsIn r))) (resultPartsIn r) ≡ true = ap (λ (q : ResultParts). sameResultParts q (resultPartsIn r)) told ∙ same-result-parts-refl (resultPartsIn r) in
         let code : stateCode st ≡ byteIn r atState = at 0 in
         let kept : placeKept r (usedFrom r) ≡ byteIn r atPlace = at 3 in
-        let rest : exactRest r ≡ true =
-        rw (eq-eqb (byteIn r atSpare) 0 (sym (at 15)))
-        (by-test (eqb (byteIn r atState) 2 || eqb (byteIn r atState) 4) (λ q. rw q)
-        (λ q. rw (q, eq-eqb (byteIn r atPlace) 0 (sym (rw (code, q) at kept))))) in
-        true-both (true-both same-p same-o) rest
+        let placed : exactPlace (byteIn r atState) (byteIn r atPlace) ≡ true =
+        by-test (eqb (byteIn r atState) 2 || eqb (byteIn r atState) 4) (λ q. rw q)
+        (λ q. rw (q, eq-eqb (byteIn r atPlace) 0 (sym (rw (code, q) at kept)))) in
+        true-both (true-both same-p same-o) placed
 
     exact-used : taskRecord (usedFrom r) (placeKept r (usedFrom r)) ≡ r → exactUsed r ≡ true
     exact-used h =

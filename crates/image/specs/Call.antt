@@ -8,7 +8,7 @@ use Rattle.kernel.specs.declared.table.Request.{Request}
 use Rattle.kernel.specs.declared.table.Answer.{Answer}
 use Rattle.image.specs.Bytes.{bytesOf, numberIn}
 use Rattle.image.specs.Record.{resultOf}
-use Rattle.task.specs.Result.{resultKind, resultWord, resultFrom}
+use Rattle.task.specs.Result.{resultKind, resultWord, resultFrom, resultCut}
 
 abbrev pub requestLength : ℕ
 requestLength = 24
@@ -34,7 +34,7 @@ requestFrom r =
 -- The answer: its length, and where each word starts.
 
 abbrev pub answerLength : ℕ
-answerLength = 20
+answerLength = 24
 
 abbrev pub atVerdict : ℕ
 atVerdict = 0
@@ -51,6 +51,9 @@ atValue = 12
 abbrev pub atSender : ℕ
 atSender = 16
 
+abbrev pub atCutWord : ℕ
+atCutWord = 20
+
 -- the words of an answer, in their order
 unfoldable pub answerBytes : Answer → List ℕ
 answerBytes a =
@@ -59,6 +62,7 @@ answerBytes a =
     ++ bytesOf 4 (resultKind (a .result))
     ++ bytesOf 4 (resultWord (a .result))
     ++ bytesOf 4 (resultFrom (a .result))
+    ++ bytesOf 4 (resultCut (a .result))
 
 -- the bytes after an answer is put into them; nothing is where they are of another length
 abbrev pub answered : Answer → List ℕ → List ℕ
@@ -70,5 +74,10 @@ answerFrom bytes =
     record {
       verdict = numberIn bytes atVerdict 4;
       next = numberIn bytes atNext 4;
-      result = resultOf (record { kind = numberIn bytes atKind 4; from = numberIn bytes atSender 4; word = numberIn bytes atValue 4 });
+      result = resultOf (record {
+        kind = numberIn bytes atKind 4;
+        from = numberIn bytes atSender 4;
+        cut = numberIn bytes atCutWord 4;
+        word = numberIn bytes atValue 4;
+      });
     }

@@ -17,7 +17,7 @@ use Rattle.image.specs.declared.fields.TaskRead.{TaskRead}
 use Rattle.image.specs.declared.stored.Decoded.{Decoded}
 use Rattle.image.specs.Bytes.{recordAt}
 use Rattle.image.specs.ResultParts.{resultPartsOf}
-use Rattle.image.specs.Record.{recordLength, atState, atPlace, atSpare, byteIn, partsOf, partsIn, resultPartsIn, stateFrom, resultOf, taskFrom, placeRead}
+use Rattle.image.specs.Record.{recordLength, atState, atPlace, byteIn, partsOf, partsIn, resultPartsIn, stateFrom, resultOf, taskFrom, placeRead}
 use Rattle.image.specs.Image.{tableOf}
 
 abbrev pub sameParts : Parts → Parts → Bool
@@ -30,7 +30,8 @@ sameParts p q =
     && eqb (p .reply .len) (q .reply .len)
 
 abbrev pub sameResultParts : ResultParts → ResultParts → Bool
-sameResultParts p q = eqb (p .kind) (q .kind) && eqb (p .from) (q .from) && eqb (p .word) (q .word)
+sameResultParts p q =
+    eqb (p .kind) (q .kind) && eqb (p .from) (q .from) && eqb (p .cut) (q .cut) && eqb (p .word) (q .word)
 
 -- a place stands only with a ready or a receive-blocked task: the waiter of an event stands alone, at 0, and any other in no queue
 abbrev pub exactPlace : ℕ → ℕ → Bool
@@ -41,16 +42,12 @@ abbrev pub statedFrom : Parts → ℕ → Stated
 statedFrom p place =
     record { state = stateFrom p; exact = sameParts (partsOf (stateFrom p)) p && exactPlace (p .code) place }
 
--- the place is exact, and the spare byte is 0
-abbrev pub exactRest : List ℕ → Bool
-exactRest r = exactPlace (byteIn r atState) (byteIn r atPlace) && eqb (byteIn r atSpare) 0
-
 -- a used record gives its task's numbers again
 abbrev pub exactUsed : List ℕ → Bool
 exactUsed r =
     sameParts (partsOf (stateFrom (partsIn r))) (partsIn r)
     && sameResultParts (resultPartsOf (resultOf (resultPartsIn r))) (resultPartsIn r)
-    && exactRest r
+    && exactPlace (byteIn r atState) (byteIn r atPlace)
 
 -- an unused record is all zero
 unfoldable pub exactRecord : List ℕ → Bool

@@ -10,7 +10,7 @@ ghost use Rattle.image.specs.Call.{requestFrom, answered};
 // How long a request and an answer are.
 pub const REQUEST: usize = 24;
 
-pub const ANSWER: usize = 20;
+pub const ANSWER: usize = 24;
 
 // Where the words of an answer start.
 const VERDICT: usize = 0;
@@ -22,6 +22,8 @@ const KIND: usize = 8;
 const VALUE: usize = 12;
 
 const SENDER: usize = 16;
+
+const CUT: usize = 20;
 
 // The request of a record: its kind and its five arguments. A record of another length asks nothing.
 pub fn request_from(bytes: &[u8]) -> Request
@@ -59,5 +61,6 @@ pub fn put_answer(answer: Answer, out: &mut [u8])
         put_word(&mut *out, KIND, numbers.kind as u32);
         put_word(&mut *out, VALUE, numbers.word);
         put_word(&mut *out, SENDER, numbers.from as u32);
+        put_word(&mut *out, CUT, numbers.cut as u32);
     }
 }

@@ -10,6 +10,7 @@ use task::parts::REPLY_BLOCKED;
 use task::parts::SEND_BLOCKED;
 use task::parts::UNUSED;
 use task::parts::state_code;
+use task::result::bit;
 use task::task::Buffer;
 use task::task::Result;
 use task::task::State;
@@ -25,7 +26,7 @@ ghost use Rattle.image.specs.ResultParts.{resultPartsOf};
 ghost use Rattle.image.specs.Record.{recordLength, plainParts, partsOf, fields, taskRecord, bufferIn, partsIn, resultPartsIn, resultOf};
 ghost use Rattle.image.specs.Exact.{sameResultParts, statedFrom, taskRead};
 
-// A record's length, and where its fields start. The spare byte is 0.
+// A record's length, and where its fields start.
 pub const RECORD: usize = 20;
 
 pub const STATE: usize = 0;
@@ -46,7 +47,7 @@ pub const REPLY: usize = 10;
 
 pub const FROM: usize = 14;
 
-pub const SPARE: usize = 15;
+pub const CUT: usize = 15;
 
 pub const WORD: usize = 16;
 
@@ -60,10 +61,12 @@ pub const FAULT: u8 = 2;
 // The greatest word: -1.
 pub const MINUS_ONE: u32 = 4294967295;
 
-// The numbers of a result, in a record and in an answer: its kind, the tid that it is from, and a value or a negative fault.
+// The numbers of a result, in a record and in an answer: its kind, the tid that it is from, whether it was cut, and a value or a negative
+// fault.
 pub struct ResultParts {
     pub kind: u8,
     pub from: u8,
+    pub cut: u8,
     pub word: u32,
 }
 
@@ -74,16 +77,19 @@ pub(crate) fn result_parts_of(result: Result) -> ResultParts
         Result::Nothing => ResultParts {
             kind: NOTHING,
             from: 0,
+            cut: 0,
             word: 0,
         },
-        Result::Value { from, value } => ResultParts {
+        Result::Value { from, cut, value } => ResultParts {
             kind: VALUE,
             from,
+            cut: bit(cut),
             word: value,
         },
         Result::Fault(f) => ResultParts {
             kind: FAULT,
             from: 0,
+            cut: 0,
             word: std::num::wrapping_sub_u32(0, f as u32),
         },
     }
@@ -177,6 +183,7 @@ fn result_parts_in(r: &[u8]) -> ResultParts
     ResultParts {
         kind: r[RESULT],
         from: r[FROM],
+        cut: r[CUT],
         word: word_in(r, WORD),
     }
 }
@@ -187,7 +194,11 @@ pub fn result_of(numbers: ResultParts) -> Result
     let from = numbers.from;
     let word = numbers.word;
     if numbers.kind == VALUE {
-        return Result::Value { from, value: word };
+        return Result::Value {
+            from,
+            cut: numbers.cut == 1,
+            value: word,
+        };
     }
     if numbers.kind == FAULT {
         if MINUS_ONE - 3 < word {
@@ -255,18 +266,18 @@ fn stated_from(parts: Parts, place: u8) -> Stated
     }
 }
 
-// Whether the numbers of a result are those of the result that they give; a value may be any word, from anyone.
+// Whether the numbers of a result are those of the result that they give; a value may be any word, from anyone, cut or not.
 fn exact_result(t: ResultParts) -> bool
     ensures { λ r. ⌜ r ≡ sameResultParts (resultPartsOf (resultOf t)) t ⌝ }
 {
     let kind = t.kind;
     if kind == NOTHING {
-        return (t.word == 0) & (t.from == 0);
+        return (t.word == 0) & (t.from == 0) & (t.cut == 0);
     }
     if kind == VALUE {
-        return true;
+        return t.cut <= 1;
     }
-    (kind == FAULT) & (MINUS_ONE - 3 < t.word) & (t.from == 0)
+    (kind == FAULT) & (MINUS_ONE - 3 < t.word) & (t.from == 0) & (t.cut == 0)
 }
 
 // Whether a record is all zero. No byte is skipped once one fails, so that the compiler may look at many at once.
@@ -321,7 +332,7 @@ pub(crate) fn task_read(r: &[u8]) -> TaskRead
         parent: r[PARENT],
         result,
     };
-    let exact = stated.exact & exact_result(numbers) & (r[SPARE] == 0);
+    let exact = stated.exact & exact_result(numbers);
     TaskRead { task, exact }
 }
 
@@ -352,7 +363,7 @@ pub fn fields_of(x: Task, place: u8) -> [u8; RECORD]
         (r.len % 256) as u8,
         (r.len / 256 % 256) as u8,
         numbers.from,
-        0,
+        numbers.cut,
         (w % 256) as u8,
         (w / 256 % 256) as u8,
         (w / 256 / 256 % 256) as u8,

@@ -76,6 +76,7 @@ module _ {n used : ℕ} {t : Table} {b count : List ℕ} (g : Stage n used n nob
         rw (
           byte 5 (omega arith) (omega arith),
           byte 14 (omega arith) (omega arith),
+          byte 15 (omega arith) (omega arith),
           byte 16 (omega arith) (omega arith),
           byte 17 (omega arith) (omega arith),
           byte 18 (omega arith) (omega arith),

@@ -15,12 +15,12 @@ use Rattle.queue.proofs.Below.{by-test, both-true, true-both}
 use Rattle.tid.specs.Tid.{slotOf, tidOf, slotNamed}
 use Rattle.tid.proofs.Trips.{slot-of-mark}
 use Rattle.task.specs.declared.task.Buffer.{Buffer}
-use Rattle.task.specs.declared.task.Result.the-variants.{Nothing, Value, Fault}
-use Rattle.task.specs.declared.task.State.the-variants.{Ready, SendBlocked, ReceiveBlocked, ReplyBlocked}
+use Rattle.task.specs.declared.task.Result.the-variants.{Nothing, Fault}
+use Rattle.task.specs.declared.task.State.the-variants.{SendBlocked, ReceiveBlocked, ReplyBlocked}
 use Rattle.task.specs.Task.{noTask, goodBuffer, messageOf, replyOf, isAlive, isSendBlocked}
 use Rattle.task.specs.Standing.{queueOf}
 use Rattle.kernel.specs.Table.{taskAt, queueAt}
-use Rattle.kernel.specs.Kinds.{alive, delivery, send, receive, reply}
+use Rattle.kernel.specs.Kinds.{alive, send, receive, reply}
 use Rattle.rules.specs.Good.{goodState}
 use Rattle.rules.proofs.States.{state-facts, facts-state}
 use Rattle.kept.proofs.Tasks.{codeAt, same-code, unquiet, apart, value-good, buffer-small}
@@ -34,7 +34,7 @@ use Rattle.records.specs.Stage.{leftBytes}
 use Rattle.records.proofs.Tasks.{byte-code}
 use Rattle.records.proofs.Heads.{sender-headed}
 use Rattle.records.proofs.Leaves.{receives-stage}
-use Rattle.inplace.specs.Ends.{aliveAt, Begins, resumesAt, stopsAt, Ends, deliversAt}
+use Rattle.inplace.specs.Ends.{aliveAt, Begins, resumesAt, stopsAt, Ends, deliversAt, receivesAt, repliesAt, receivesAt, repliesAt}
 use Rattle.inplace.proofs.Buffers.{message-at, reply-at, closed-buffer}
 use Rattle.inplace.proofs.Ways.{nobody-woke, goes-on-ends, halts-ends, queues-ends}
 use Rattle.inplace.proofs.Requests.{caller-used, resumes-ends, stops-ends, one-wakes}
@@ -131,7 +131,7 @@ module _ {n used c : ℕ} {b count : List ℕ} (g : Begins n used c b count) (sm
                 let good = value-good used (m .len) (tidOf c) (buffer-small m (buffers .0)) (omega (arith, caller-used g small running)) in
                 let whole : into ≡ messageOf (taskAt (tableOf n b) s .state) = read ∙ message-at (g .stage) s l in
                 rw (live, another, fit, is, slot-of-mark s, code, whole)
-                (halts-ends (one-wakes g small running s 3 (Value (tidOf c) (m .len)) code (rw code) (omega arith) good) _ running
+                (halts-ends (one-wakes g small running s 3 (deliversAt used c m r s (messageOf (taskAt (tableOf n b) s .state)) .told) code (rw code) (omega arith) good) _ running
                 (ReplyBlocked r) refl refl refl (rw (buffers .1)) (λ e. absurd (false≢true e)))
 
     -- Reply.
@@ -157,7 +157,7 @@ module _ {n used c : ℕ} {b count : List ℕ} (g : Begins n used c b count) (sm
           -- the sender is woken with the reply, and the caller goes on behind it
           pub reply-delivers : goodBuffer d ≡ true → (awaited : Buffer) → awaited ≡ bufferIn b (s * recordLength + atReply)
               → Ends n c (reply (tableOf n b) c target d)
-              (record { used = used; woken = s; told = Value 0 (d .len); state = Ready; place = 0; result = Value 0 (min (d .len) (awaited .len)); effect = delivery c d s awaited })
+              (repliesAt used c d s awaited)
               b count
           unfolding reply
           reply-delivers fit awaited read =
@@ -165,10 +165,12 @@ module _ {n used c : ℕ} {b count : List ℕ} (g : Begins n used c b count) (sm
               let code : codeAt (tableOf n b) s ≡ 5 = sym (byte-code (g .stage) s l) ∙ waits in
               let low = buffer-small d fit in
               let whole : awaited ≡ replyOf (taskAt (tableOf n b) s .state) = read ∙ reply-at (g .stage) s l in
-              let v = min (d .len) (replyOf (taskAt (tableOf n b) s .state) .len) in
+              let held = replyOf (taskAt (tableOf n b) s .state) in
+              let v = min (d .len) (held .len) in
+              let turn = repliesAt used c d s held in
               rw (live, is, slot-of-mark s, code, fit, whole)
-              (goes-on-ends (one-wakes g small running s 5 (Value 0 (d .len)) code (rw code) (omega arith) (value-good used (d .len) 0 low (omega arith)))
-              _ running (Value 0 v) (value-good used v 0 (omega arith) (omega arith)))
+              (goes-on-ends (one-wakes g small running s 5 (turn .told) code (rw code) (omega arith) (value-good used (d .len) 0 low (omega arith)))
+              _ running (turn .result) (value-good used v 0 (omega arith) (omega arith)))
 
   -- Receive.
   module _ (d : Buffer) where
@@ -206,7 +208,7 @@ module _ {n used c : ℕ} {b count : List ℕ} (g : Begins n used c b count) (sm
             → sent ≡ bufferIn b′ (s * recordLength + atMessage) → reply ≡ bufferIn b′ (s * recordLength + atReply)
             → b″ ≡ leftBytes b′ s (ReplyBlocked reply) Nothing 0
             → Ends n c (receive (tableOf n b) c d)
-            (record { used = used; woken = n; told = Nothing; state = Ready; place = 0; result = Value (tidOf s) (sent .len); effect = delivery s sent c d })
+            (receivesAt n used c d s sent)
             b″ count
         unfolding receive
         receive-takes b′ b″ sent reply closed read awaited left =
@@ -222,4 +224,4 @@ module _ {n used c : ℕ} {b count : List ℕ} (g : Begins n used c b count) (sm
             let good = value-good used (messageOf sender .len) (tidOf s) (buffer-small (messageOf sender) (state-facts used s sender (f .tasks .each s sender-used .state) .message)) (omega (arith, sender-used)) in
             rw (fit, ne-eqb (queueAt t (sendQueue c) .len) 0 (λ e. omega (arith, filled)), ← head, message, left, answer, closed)
             (goes-on-ends (nobody-woke next small (g .near) (λ _. same-code (getD-set-other (t .tasks) s c _ noTask (apart t 1 4 (g .runs running) sends (omega arith))) (g .runs running)) (wakes-none _ Nothing))
-            _ running (Value (tidOf s) (messageOf sender .len)) good)
+            _ running (receivesAt n used c d s (messageOf sender) .result) good)

@@ -14,7 +14,7 @@ use Rattle.tid.specs.Tid.{markOf, tidOf}
 use Rattle.queue.specs.Numbering.{places, sendQueue}
 use Rattle.queue.specs.Row.{emptyRow, aloneRow}
 use Rattle.task.specs.declared.task.Result.{Result}
-use Rattle.task.specs.declared.task.Result.the-variants.{Nothing, Value, Fault}
+use Rattle.task.specs.declared.task.Result.the-variants.{Nothing, Fault}
 use Rattle.task.specs.declared.task.State.{State}
 use Rattle.task.specs.declared.task.State.the-variants.{Ready, Exited}
 use Rattle.task.specs.Task.{firstNegative, noTask, isActive, isReady, isQuiet}
@@ -22,7 +22,7 @@ use Rattle.kernel.specs.declared.table.Effect.the-variants.{Keep}
 use Rattle.kernel.specs.Table.{slots, taskAt, queueAt, usedSlots}
 use Rattle.kernel.specs.Moves.{woken}
 use Rattle.kernel.specs.Turn.{resumes, stops}
-use Rattle.kernel.specs.Kinds.{newTask, create, myTid, myParentTid, yield, exit}
+use Rattle.kernel.specs.Kinds.{number, newTask, create, myTid, myParentTid, yield, exit}
 use Rattle.rules.specs.Good.{goodResult, goodState}
 use Rattle.rules.proofs.Good.{used-slots}
 use Rattle.kept.proofs.Tasks.{codeAt, same-code, isFree, free, apart, parent-before, value-good}
@@ -51,21 +51,21 @@ module _ {n used c : ℕ} {b count : List ℕ} (g : Begins n used c b count) (sm
   pub resumes-ends : (o : Result) → goodResult used o ≡ true → Ends n c (resumes (tableOf n b) o) (resumesAt n used o) b count
   resumes-ends o good = goes-on-ends nobody-wakes Keep running o good
 
-  number-ends : (v : ℕ) → v < firstNegative → Ends n c (resumes (tableOf n b) (Value 0 v)) (resumesAt n used (Value 0 v)) b count
-  number-ends v low = resumes-ends (Value 0 v) (value-good used v 0 low (omega arith))
+  number-ends : (v : ℕ) → v < firstNegative → Ends n c (resumes (tableOf n b) (number v)) (resumesAt n used (number v)) b count
+  number-ends v low = resumes-ends (number v) (value-good used v 0 low (omega arith))
 
-  pub my-tid-ends : Ends n c (myTid (tableOf n b) c) (resumesAt n used (Value 0 (tidOf c))) b count
+  pub my-tid-ends : Ends n c (myTid (tableOf n b) c) (resumesAt n used (number (tidOf c))) b count
   unfolding myTid
   my-tid-ends = number-ends (tidOf c) (omega arith)
 
-  pub my-parent-tid-ends : Ends n c (myParentTid (tableOf n b) c) (resumesAt n used (Value 0 (byteAt b c atParent))) b count
+  pub my-parent-tid-ends : Ends n c (myParentTid (tableOf n b) c) (resumesAt n used (number (byteAt b c atParent))) b count
   unfolding myParentTid
   my-parent-tid-ends =
       let parent = taskAt (tableOf n b) c .parent in
       let before : parent ≤ c = parent-before c parent (g .stage .rules .tasks .each c caller-used .parent) in
       rw (byte-parent (g .stage) c running) (number-ends parent (omega arith))
 
-  pub yield-ends : Ends n c (yield (tableOf n b)) (resumesAt n used (Value 0 0)) b count
+  pub yield-ends : Ends n c (yield (tableOf n b)) (resumesAt n used (number 0)) b count
   unfolding yield
   yield-ends = number-ends 0 (omega arith)
 
@@ -115,7 +115,7 @@ module _ {n used c : ℕ} {b count : List ℕ} (g : Begins n used c b count) (sm
 
       -- the new task is woken, and the caller goes on behind it
       pub create-adds : used < n → Ends n c (create (tableOf n b) c p)
-          (record { used = used + 1; woken = used; told = Nothing; state = Ready; place = 0; result = Value 0 (tidOf used); effect = Keep })
+          (record { used = used + 1; woken = used; told = Nothing; state = Ready; place = 0; result = number (tidOf used); effect = Keep })
           (withRecord b used (fields (newTask p c) (getD count p 0))) count
       unfolding create
       create-adds room =
@@ -125,4 +125,4 @@ module _ {n used c : ℕ} {b count : List ℕ} (g : Begins n used c b count) (sm
           rw (lt-leb priorities p low, first-free, lt-leb (slots (tableOf n b)) used (omega (arith, g .stage .rules .size)))
           (goes-on-ends
           (slot-woke added small (g .near) (λ _. same-code (getD-set-other (tableOf n b .tasks) used c x noTask other) (g .runs running)) Nothing (omega arith) other refl)
-          Keep running (Value 0 (tidOf used)) (value-good (used + 1) (tidOf used) 0 (omega arith) (omega arith)))
+          Keep running (number (tidOf used)) (value-good (used + 1) (tidOf used) 0 (omega arith) (omega arith)))

@@ -1,5 +1,5 @@
 -- What the parts of an entry in place promise: a kind leaves a turn, and the end of every entry makes a decision of it.
-use Prim.Native.Nat.{ℕ, _*_, _≤_, _<_}
+use Prim.Native.Nat.{ℕ, _*_, _≤_, _<_, min}
 use mathlib.Core.Path.{_≡_}
 use mathlib.Core.Bool.{true, _&&_}
 use mathlib.Core.List.{List}
@@ -20,7 +20,7 @@ use Rattle.kernel.specs.declared.table.Answer.{Answer}
 use Rattle.kernel.specs.declared.table.Decision.{Decision}
 use Rattle.kernel.specs.Table.{taskAt}
 use Rattle.kernel.specs.Moves.{wokenRow, rejoined}
-use Rattle.kernel.specs.Kinds.{delivery}
+use Rattle.kernel.specs.Kinds.{delivery, isCut}
 use Rattle.rules.specs.Facts.{nobody}
 use Rattle.image.specs.Record.{recordLength, atState, atPriority, atAwaited, byteAt}
 use Rattle.image.specs.Image.{imageOf, tableOf}
@@ -102,14 +102,43 @@ stopsAt n used st place =
 -- the turn of a Send that delivers at once: slot s is told of the message, and the caller waits for a reply
 abbrev pub deliversAt : ℕ → ℕ → Buffer → Buffer → ℕ → Buffer → Turn
 deliversAt used c m r s into =
+    let copy = delivery c m s into in
     record {
       used = used;
       woken = s;
-      told = Value (tidOf c) (m .len);
+      told = Value (tidOf c) (isCut copy) (m .len);
       state = ReplyBlocked r;
       place = 0;
       result = Nothing;
-      effect = delivery c m s into;
+      effect = copy;
+    }
+
+-- that of a Receive from slot s, whose message is there: the caller is told of it
+abbrev pub receivesAt : ℕ → ℕ → ℕ → Buffer → ℕ → Buffer → Turn
+receivesAt n used c b s sent =
+    let copy = delivery s sent c b in
+    record {
+      used = used;
+      woken = n;
+      told = Nothing;
+      state = Ready;
+      place = 0;
+      result = Value (tidOf s) (isCut copy) (sent .len);
+      effect = copy;
+    }
+
+-- that of a Reply to slot s, which waits for it: both are told of it
+abbrev pub repliesAt : ℕ → ℕ → Buffer → ℕ → Buffer → Turn
+repliesAt used c b s into =
+    let copy = delivery c b s into in
+    record {
+      used = used;
+      woken = s;
+      told = Value 0 (isCut copy) (b .len);
+      state = Ready;
+      place = 0;
+      result = Value 0 (isCut copy) (min (b .len) (into .len));
+      effect = copy;
     }
 
 -- what the end of an entry needs: then the bytes are those of a table where none is active

@@ -4,7 +4,6 @@ ghost use mathlib.Core.Path.{_≡_};
 ghost use Prim.Native.Nat.{_*_, _<_};
 ghost use lib.ListN.{length};
 ghost use Rattle.tid.specs.Sizes.{slotCount, events};
-ghost use Rattle.task.specs.declared.task.Result.the-variants as O;
 ghost use Rattle.kernel.specs.Kinds as Kinds;
 ghost use Rattle.kernel.specs.Decide as Decide;
 ghost use Rattle.kernel.specs.Refusal.{Enters};
@@ -24,7 +23,9 @@ use image::fields::REPLY;
 use image::fields::STATE;
 use image::fields::fields_of;
 use kernel::kinds::delivery;
+use kernel::kinds::is_cut;
 use kernel::kinds::least;
+use kernel::kinds::number;
 use kernel::kinds::signal;
 use kernel::numbers::AWAIT_EVENT;
 use kernel::numbers::CREATE;
@@ -98,12 +99,6 @@ fn stops(used: usize, state: State, place: u8) -> Turn
     }
 }
 
-fn number(used: usize, value: u32) -> Turn
-    ensures { λ r. ⌜ r ≡ resumesAt slotCount used (O.Value 0 value) ⌝ }
-{
-    resumes(used, Result::Value { from: 0, value })
-}
-
 fn create(image: &mut [u8], used: usize, count: &[u8; QUEUES], c: usize, priority: u32) -> Turn
     requires { ⌜ (c < slotCount) × Begins slotCount used c (now image) (now count) ⌝ }
     ensures { λ r. ⌜ Ends slotCount c (Kinds.create (tableOf slotCount (now (image .entry))) c priority) r (now (image .exit)) (now (count .entry)) ⌝ }
@@ -131,19 +126,16 @@ fn create(image: &mut [u8], used: usize, count: &[u8; QUEUES], c: usize, priorit
         told: Result::Nothing,
         state: State::Ready,
         place: 0,
-        result: Result::Value {
-            from: 0,
-            value: tid_of(used) as u32,
-        },
+        result: number(tid_of(used) as u32),
         effect: Effect::Keep,
     }
 }
 
 fn my_parent_tid(image: &[u8], used: usize, c: usize) -> Turn
     requires { ⌜ (c < slotCount) × (length (now image) ≡ slotCount * recordLength) ⌝ }
-    ensures { λ r. ⌜ r ≡ resumesAt slotCount used (O.Value 0 (byteAt (now (image .entry)) c atParent)) ⌝ }
+    ensures { λ r. ⌜ r ≡ resumesAt slotCount used (Kinds.number (byteAt (now (image .entry)) c atParent)) ⌝ }
 {
-    number(used, wide(image[c * RECORD + PARENT]) as u32)
+    resumes(used, number(wide(image[c * RECORD + PARENT]) as u32))
 }
 
 // The slot of a tid that exists; SLOTS where none does.
@@ -173,17 +165,20 @@ fn delivers(used: usize, c: usize, message: Buffer, reply: Buffer, s: usize, int
     requires { ⌜ (c < slotCount) × (s < slotCount) ⌝ }
     ensures { λ r. ⌜ r ≡ deliversAt used c message reply s into ⌝ }
 {
+    let caller = tid_of(c);
+    let copy = delivery(caller, message, tid_of(s), into);
     Turn {
         used,
         woken: s,
         told: Result::Value {
-            from: tid_of(c),
+            from: caller,
+            cut: is_cut(copy),
             value: message.len,
         },
         state: State::ReplyBlocked(reply),
         place: 0,
         result: Result::Nothing,
-        effect: delivery(tid_of(c), message, tid_of(s), into),
+        effect: copy,
     }
 }
 
@@ -261,6 +256,8 @@ fn receive(image: &mut [u8], used: usize, count: &[u8; QUEUES], c: usize, b: Buf
         Result::Nothing,
         0,
     );
+    let sender = tid_of(s);
+    let copy = delivery(sender, sent, tid_of(c), b);
     Turn {
         used,
         woken: SLOTS,
@@ -268,10 +265,11 @@ fn receive(image: &mut [u8], used: usize, count: &[u8; QUEUES], c: usize, b: Buf
         state: State::Ready,
         place: 0,
         result: Result::Value {
-            from: tid_of(s),
+            from: sender,
+            cut: is_cut(copy),
             value: sent.len,
         },
-        effect: delivery(tid_of(s), sent, tid_of(c), b),
+        effect: copy,
     }
 }
 
@@ -291,20 +289,24 @@ fn reply(image: &[u8], used: usize, count: &[u8; QUEUES], c: usize, target: u32,
         return resumes(used, Result::Fault(3));
     }
     let awaited = buffer_at(image, at + REPLY);
+    let copy = delivery(tid_of(c), b, tid_of(s), awaited);
+    let cut = is_cut(copy);
     Turn {
         used,
         woken: s,
         told: Result::Value {
             from: 0,
+            cut,
             value: b.len,
         },
         state: State::Ready,
         place: 0,
         result: Result::Value {
             from: 0,
+            cut,
             value: least(b.len, awaited.len),
         },
-        effect: delivery(tid_of(c), b, tid_of(s), awaited),
+        effect: copy,
     }
 }
 
@@ -368,9 +370,9 @@ pub(crate) fn turned(
     let kind = r.kind;
     match kind {
         CREATE => create(&mut *image, used, &*count, c, r.arg0),
-        MY_TID => number(used, tid_of(c) as u32),
+        MY_TID => resumes(used, number(tid_of(c) as u32)),
         MY_PARENT_TID => my_parent_tid(&*image, used, c),
-        YIELD => number(used, 0),
+        YIELD => resumes(used, number(0)),
         EXIT => exit(&mut *image, used, &mut *count, c),
         SEND => send(
             &*image,

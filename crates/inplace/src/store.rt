@@ -8,6 +8,7 @@ ghost use Rattle.image.specs.Bytes.{recordAt};
 ghost use Rattle.image.specs.Record.{recordLength, bufferIn, resultPartsIn, resultOf};
 ghost use Rattle.records.specs.Stage.{leftBytes};
 ghost use Rattle.inplace.specs.Ends.{Up, Closes};
+use image::fields::CUT;
 use image::fields::FROM;
 use image::fields::PARENT;
 use image::fields::PLACE;
@@ -47,6 +48,7 @@ pub(crate) fn result_at(image: &[u8], s: usize) -> Result
     result_of(ResultParts {
         kind: image[r + RESULT],
         from: image[r + FROM],
+        cut: image[r + CUT],
         word: word(
             image[r + WORD],
             image[r + WORD + 1],

@@ -2,6 +2,7 @@
 use Prim.Native.Nat.{ℕ, suc, _+_, _≤_, _<_}
 use mathlib.Core.Path.{_≡_, refl, sym, _∙_}
 use mathlib.Core.Logic.{_≢_}
+use mathlib.Core.Bool.{Bool}
 use mathlib.Core.List.{List, [], _∷_, _++_, append-assoc}
 use native.Mathlib.Omega.{arith}
 use lib.ListN.{length, getD, set, take, drop, length-take, length-drop}
@@ -33,7 +34,7 @@ copy-brings xs from to m fits room =
 -- an effect does not write a place
 abbrev pub Spares : Effect → ℕ → Type 0
 Spares Keep p = Unit
-Spares (Copy source dest m) p = (j : ℕ) → j < m → dest + j ≢ p
+Spares (Copy source dest m cut) p = (j : ℕ) → j < m → dest + j ≢ p
 Spares (Put at byte) p = at ≢ p
 
 sets-spare : (vs xs : List ℕ) (i p : ℕ) → ((j : ℕ) → j < length vs → i + j ≢ p) → getD (sets xs i vs) p 0 ≡ getD xs p 0
@@ -44,7 +45,7 @@ sets-spare (v ∷ vs) xs i p other =
 
 pub spared : (e : Effect) (xs : List ℕ) (p : ℕ) → Spares e p → getD (after e xs) p 0 ≡ getD xs p 0
 spared Keep xs p other = refl
-spared (Copy source dest m) xs p other =
+spared (Copy source dest m cut) xs p other =
     sets-spare (take m (drop source xs)) xs dest p (λ j h. other j (omega (arith, length-take m (drop source xs))))
 spared (Put at byte) xs p other = getD-set-other xs at p byte 0 (λ e. other (sym e))
 
@@ -70,7 +71,7 @@ pub record InBuffer (p : Parties) (s i : ℕ) : Type 0 where
   pub least : p .taken .start ≤ i
   pub most : i < p .taken .start + p .taken .len
 
-pub copy-writes : {t : Table} {p : Parties} {source dest m : ℕ} → Delivers t p source dest m
+pub copy-writes : {t : Table} {p : Parties} {source dest m : ℕ} {cut : Bool} → Delivers t p source dest m cut
     → (s i j : ℕ) → i < areaBytes → j < m → dest + j ≡ placeIn s i → InBuffer p s i
 copy-writes {p = p} lands s i j low h e =
     let fits = leb-true (p .taken .start + p .taken .len) areaBytes (lands .buffers .1) in

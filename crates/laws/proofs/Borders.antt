@@ -73,7 +73,7 @@ pub eachRefusalIsGiven : EachRefusalIsGiven
 eachRefusalIsGiven p low = given p low
 
 pub valuesEnd : ValuesEnd
-valuesEnd n from v =
+valuesEnd n from v cut =
     (λ small. rw (lt-ltb v firstNegative small, le-leb n n (le-refl n)), refl, rw (lt-leb (suc n) n (omega arith), and-false))
 
 pub faultsEnd : FaultsEnd

@@ -4,6 +4,7 @@ use mathlib.Core.Path.{_≡_, ap, _∙_}
 use mathlib.Core.Logic.{_≢_}
 use mathlib.Core.Bool.{Bool, true, false}
 use native.Mathlib.Omega.{arith}
+use lib.Dec.{ltb}
 use borrow.Author.Tests.{eqb-true, eq-eqb, ltb-true, lt-ltb}
 use Rattle.queue.specs.Numbering.{sendQueue}
 use Rattle.queue.specs.Row.{placeAt}
@@ -12,7 +13,7 @@ use Rattle.tid.specs.Tid.{markOf, slotOf, tidOf}
 use Rattle.tid.proofs.Trips.{slot-of-mark}
 use Rattle.task.specs.declared.task.Result.the-variants.{Nothing, Value, Fault}
 use Rattle.task.specs.declared.task.State.the-variants.{Ready, ReplyBlocked}
-use Rattle.task.specs.Task.{goodBuffer, replyOf, awaited, taskAs}
+use Rattle.task.specs.Task.{goodBuffer, messageOf, replyOf, awaited, taskAs}
 use Rattle.kernel.specs.declared.table.Table.{Table}
 use Rattle.kernel.specs.declared.table.Request.{Request}
 use Rattle.kernel.specs.Numbers.{exitKind, sendKind, receiveKind, replyKind, eventKind}
@@ -138,7 +139,8 @@ module _ (t : Table) (r : Request) (s : ℕ) where
   facts-turned f = true-both (eq-eqb _ _ (f .kind)) (true-both (eq-eqb _ 4 (f .state)) (eq-eqb _ _ (f .target)))
 
   -- at most one of the five is so, and where none is the task is not concerned
-  pub left-sent : Sent → othersLeft t r s ≡ taskAs Ready (Value (activeTid t) (r .arg2)) (taskAt t s)
+  pub left-sent : Sent → let x = taskAt t s in
+      othersLeft t r s ≡ taskAs Ready (Value (activeTid t) (ltb (messageOf (x .state) .len) (r .arg2)) (r .arg2)) x
   unfolding othersLeft
   left-sent f = rw (facts-sent f)
 
@@ -146,7 +148,7 @@ module _ (t : Table) (r : Request) (s : ℕ) where
   unfolding othersLeft
   left-received f = rw (fails (λ e. let g = sent-facts e in omega arith), facts-received f)
 
-  pub left-replied : Replied → othersLeft t r s ≡ taskAs Ready (Value 0 (r .arg2)) (taskAt t s)
+  pub left-replied : Replied → let x = taskAt t s in othersLeft t r s ≡ taskAs Ready (Value 0 (ltb (replyOf (x .state) .len) (r .arg2)) (r .arg2)) x
   unfolding othersLeft
   left-replied f =
       rw (fails (λ e. let g = sent-facts e in omega arith), fails (λ e. let g = received-facts e in omega arith), facts-replied f)

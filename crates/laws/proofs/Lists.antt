@@ -30,6 +30,14 @@ module _ {A B : Type 0} (f : A → B) where
   map-drop (suc n) [] = refl
   map-drop (suc n) (x ∷ xs) = map-drop n xs
 
+-- what holds of the entry at a place, and of one that is stored, holds of what stands there then
+pub at-set : {A : Type 0} (P : A → Type 0) (l : List A) (i s : ℕ) (x y : A) → P x → P (getD l s y) → P (getD (set l i x) s y)
+at-set P [] i s x y new old = old
+at-set P (z ∷ l) zero zero x y new old = new
+at-set P (z ∷ l) zero (suc s) x y new old = old
+at-set P (z ∷ l) (suc i) zero x y new old = old
+at-set P (z ∷ l) (suc i) (suc s) x y new old = at-set P l i s x y new old
+
 module _ {A : Type 0} {P : A → Type 0} where
   pub every-set : {xs : List A} → Every P xs → (i : ℕ) {a : A} → P a → Every P (set xs i a)
   every-set none i p = none

@@ -6,6 +6,7 @@ use mathlib.Core.Bool.{true}
 use mathlib.Core.List.{List}
 use native.Mathlib.Omega.{arith}
 use lib.ListN.{length}
+use lib.Dec.{ltb}
 use borrow.Author.Tests.{leb-true, lt-ltb, ne-eqb}
 use Rattle.queue.specs.Numbering.{sendQueue}
 use Rattle.tid.specs.Sizes.{areaBytes}
@@ -15,7 +16,7 @@ use Rattle.task.specs.declared.task.Buffer.{Buffer}
 use Rattle.task.specs.declared.task.Result.the-variants.{Value}
 use Rattle.task.specs.declared.task.State.the-variants.{Ready, SendBlocked, ReplyBlocked}
 use Rattle.task.specs.declared.task.Task.{Task}
-use Rattle.task.specs.Task.{goodBuffer, messageOf}
+use Rattle.task.specs.Task.{goodBuffer, messageOf, replyOf}
 use Rattle.kernel.specs.declared.table.Table.{Table}
 use Rattle.kernel.specs.declared.table.Request.{Request}
 use Rattle.kernel.specs.declared.table.Decision.{Decision}
@@ -71,20 +72,24 @@ module _ {n : ℕ} {t : Table} {xs : List ℕ} (steps : Steps n t xs) (r : Reque
   pub step-effect : d .effect ≡ turnOf t a r .effect
   step-effect = ap (λ (d : Decision). d .effect) (step-entry steps r e) ∙ entry-effect a (turnOf t a r)
 
-  pub send-effect : (s : ℕ) (b : Buffer) → Sent t r s → s ≢ a → taskAt t s .state ≡ SendBlocked b
-      → turnOf t a r .effect ≡ delivery a (buffer (r .arg1) (r .arg2)) s b
+  pub sent-effect : (s : ℕ) → Sent t r s → s ≢ a
+      → turnOf t a r .effect ≡ delivery a (buffer (r .arg1) (r .arg2)) s (messageOf (taskAt t s .state))
   unfolding turnOf send
-  send-effect s b f other blocked =
+  sent-effect s f other =
       rw (
         f .kind,
         f .named,
         slot-of-mark s,
         lt-ltb 0 (tidOf s) (omega arith),
-        blocked,
+        f .state,
         ne-eqb (tidOf s) (tidOf a) (λ z. other (omega arith)),
         f .message,
         f .reply,
       )
+
+  pub send-effect : (s : ℕ) (b : Buffer) → Sent t r s → s ≢ a → taskAt t s .state ≡ SendBlocked b
+      → turnOf t a r .effect ≡ delivery a (buffer (r .arg1) (r .arg2)) s b
+  send-effect s b f other blocked = rw blocked at (sent-effect s f other)
 
   pub send-reaches : (s : ℕ) (b : Buffer) → isSentTo t r s ≡ true → taskAt t s .state ≡ SendBlocked b
       → Reaches a (buffer (r .arg1) (r .arg2)) s b (activeTid t) xs d
@@ -94,14 +99,15 @@ module _ {n : ℕ} {t : Table} {xs : List ℕ} (steps : Steps n t xs) (r : Reque
       let other = not-caller good s l (λ z. omega (arith, f .state)) in
       let here = caller (λ ten. omega (arith, f .kind)) in
       record {
-        gets = ends-gets (rw (left-other t r s other ∙ left-sent t r s f) at (step-sees steps r e s l)) refl;
+        gets = rw blocked at (ends-gets (rw (left-other t r s other ∙ left-sent t r s f) at (step-sees steps r e s l)) refl);
         bytes = rw (step-effect ∙ send-effect s b f other blocked)
             (delivered xs a (buffer (r .arg1) (r .arg2)) s b (steps .size) (omega (arith, good .rules .size)) (f .message) (below l)
             (rw blocked at (known-state good s l .message)));
       }
 
   pub receive-turn : (s : ℕ) → Received t r s → let u = turnOf t a r in let given = messageOf (taskAt t s .state) in
-      (u .state ≡ Ready) × (u .result ≡ Value (tidOf s) (given .len)) × (u .effect ≡ delivery s given a (buffer (r .arg0) (r .arg1)))
+      (u .state ≡ Ready) × (u .result ≡ Value (tidOf s) (ltb (r .arg1) (given .len)) (given .len))
+      × (u .effect ≡ delivery s given a (buffer (r .arg0) (r .arg1)))
   unfolding turnOf receive
   receive-turn s f =
       let q = queueAt t (sendQueue a) in
@@ -122,10 +128,10 @@ module _ {n : ℕ} {t : Table} {xs : List ℕ} (steps : Steps n t xs) (r : Reque
             (below used) (f .message));
       }
 
-  reply-effect : (s : ℕ) (b : Buffer) → Replied t r s → taskAt t s .state ≡ ReplyBlocked b
-      → turnOf t a r .effect ≡ delivery a (buffer (r .arg1) (r .arg2)) s b
+  pub replied-effect : (s : ℕ) → Replied t r s
+      → turnOf t a r .effect ≡ delivery a (buffer (r .arg1) (r .arg2)) s (replyOf (taskAt t s .state))
   unfolding turnOf reply
-  reply-effect s b f blocked = rw (f .kind, f .named, slot-of-mark s, lt-ltb 0 (tidOf s) (omega arith), blocked, f .message)
+  replied-effect s f = rw (f .kind, f .named, slot-of-mark s, lt-ltb 0 (tidOf s) (omega arith), f .state, f .message)
 
   pub reply-reaches : (s : ℕ) (b : Buffer) → isRepliedTo t r s ≡ true → taskAt t s .state ≡ ReplyBlocked b
       → Reaches a (buffer (r .arg1) (r .arg2)) s b 0 xs d
@@ -135,8 +141,8 @@ module _ {n : ℕ} {t : Table} {xs : List ℕ} (steps : Steps n t xs) (r : Reque
       let other = not-caller good s l (λ z. omega (arith, f .state)) in
       let here = caller (λ ten. omega (arith, f .kind)) in
       record {
-        gets = ends-gets (rw (left-other t r s other ∙ left-replied t r s f) at (step-sees steps r e s l)) refl;
-        bytes = rw (step-effect ∙ reply-effect s b f blocked)
+        gets = rw blocked at (ends-gets (rw (left-other t r s other ∙ left-replied t r s f) at (step-sees steps r e s l)) refl);
+        bytes = rw (step-effect ∙ rw blocked at (replied-effect s f))
             (delivered xs a (buffer (r .arg1) (r .arg2)) s b (steps .size) (omega (arith, good .rules .size)) (f .message) (below l)
             (rw blocked at (known-state good s l .reply)));
       }

@@ -82,7 +82,7 @@ module _ {n : ℕ} {t : Table} {xs : List ℕ} (steps : Steps n t xs) (r : Reque
 
   spares : (f : Effect) → Lands t r f → (i : ℕ) → i < areaBytes → Spares f (placeIn s 0 + i)
   spares Keep lands i low = tt
-  spares (Copy source dest m) lands i low =
+  spares (Copy source dest m cut) lands i low =
       λ j h e. let in-buffer = copy-writes lands s i j low h (omega arith) in omega (arith, narrow (in-buffer .taker))
   spares (Put at byte) lands i low = λ e. active-not t s other (put-writes lands s i low (omega arith))
 

@@ -1,22 +1,24 @@
 -- A step as one task sees it: an entry leaves its record as `left` says, and then it runs or it does not.
-use Prim.Native.Nat.{ℕ, _<_}
+use Prim.Native.Nat.{ℕ, _≤_, _<_}
 use mathlib.Core.Path.{_≡_, refl, sym, ap, subst, _∙_}
 use mathlib.Core.Logic.{_≢_}
 use mathlib.Core.Bool.{true, false, false≢true}
 use mathlib.Core.List.{List}
 use native.Mathlib.Omega.{arith}
-use native.Mathlib.Decide.{ℕ-discrete}
-use lib.ListN.{length}
+use native.Mathlib.Decide.{ℕ-discrete, decLt}
+use lib.ListN.{length, List·getD-eq-default}
 use lib.Dec.{ltb, eqb}
 use borrow.Author.Tests.{eqb-true, eqb-false, eq-eqb, ne-eqb, ltb-false, lt-ltb, not-true}
 use Rattle.queue.specs.Row.{placeAt, count}
 use Rattle.queue.proofs.Below.{both-true, true-both}
 use Rattle.tid.specs.Tid.{slotOf}
 use Rattle.tid.proofs.Trips.{slot-of-mark}
+use Rattle.task.specs.declared.task.Result.{Result}
+use Rattle.task.specs.declared.task.Result.the-variants.{Nothing}
 use Rattle.task.specs.declared.task.State.{State}
 use Rattle.task.specs.declared.task.State.the-variants.{Unused, Active, Ready, SendBlocked, ReceiveBlocked, ReplyBlocked, EventBlocked, Exited}
 use Rattle.task.specs.declared.task.Task.{Task}
-use Rattle.task.specs.Task.{isReady, taskAs}
+use Rattle.task.specs.Task.{noTask, isReady, taskAs}
 use Rattle.task.proofs.Tests.{chosen, clash}
 use Rattle.kernel.specs.declared.table.Table.{Table}
 use Rattle.kernel.specs.declared.table.Request.{Request}
@@ -39,7 +41,7 @@ use Rattle.laws.proofs.Effects.{slots-woken, slots-rejoined}
 use Rattle.laws.proofs.SameRuns.{length-after}
 use Rattle.laws.proofs.Steps.{step-sound}
 use Rattle.laws.proofs.Landing.{active-code}
-use Rattle.laws.proofs.View.{Heads, IsReady, heads-woken, heads-rejoined, row-seen, rejoined-here, rejoined-other, dispatch-seen}
+use Rattle.laws.proofs.View.{Heads, IsReady, heads-woken, heads-rejoined, row-seen, rejoined-here, rejoined-other, dispatch-seen, AllTold, dispatch-tells}
 use Rattle.laws.proofs.Concerns.{fails, left-alone}
 use Rattle.laws.proofs.Turns.{Leaves, turn-leaves}
 
@@ -141,6 +143,32 @@ module _ {n : ℕ} {t : Table} (good : Good n t) (r : Request) (enters : Enters 
       let size = slots-rejoined woke a (u .state) (u .result) in
       subst (λ (x : Task). Ends s x (settled a u)) (ended-left s l)
       (dispatch-seen s (u .effect) ended (omega (arith, woke-size, good .rules .tasks .fits, good .rules .size)) ended-heads)
+
+  -- who was not used holds nothing, even if it is made now
+  ended-unused : (s : ℕ) → usedSlots t ≤ s → taskAt ended s .result ≡ Nothing
+  ended-unused s past =
+      let size : slots ended ≡ n = slots-rejoined woke a (u .state) (u .result) ∙ woke-size ∙ good .rules .size in
+      elim (decLt s n) [
+        | yes below ↦
+            let used : a < slots t → a < usedSlots t = λ here. slot-used (good .rules) (rw (active-code t here)) in
+            let other : s ≢ a = λ e. omega (arith, used (omega (arith, good .rules .size))) in
+            ap (λ (x : Task). x .result)
+            (rejoined-other woke a (u .state) (u .result) s other
+            ∙ row-seen (u .table) (u .told) s (leaves .row) (leaves .size ∙ good .rules .size) below)
+            ∙ leaves .unused s past
+        | no out ↦ ap (λ (x : Task). x .result) (List·getD-eq-default (ended .tasks) noTask (omega arith))
+      ]
+
+  -- what holds of nothing, and of the result that each used task is left with, holds of all that an entry tells
+  pub entry-tells : (P : ℕ → Result → Type 0) → ((s : ℕ) → P s Nothing) → ((s : ℕ) → s < usedSlots t → P s (left t r s .result))
+      → AllTold P (settled a u)
+  unfolding settled
+  entry-tells P none used =
+      dispatch-tells P none (u .effect) ended
+      (λ s. elim (decLt s (usedSlots t)) [
+        | yes l ↦ rw (ended-left s l) (used s l)
+        | no past ↦ rw (ended-unused s (omega arith)) (none s)
+      ])
 
 -- WHICH STEPS ARE ENTRIES
 

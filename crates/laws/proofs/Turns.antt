@@ -23,6 +23,7 @@ use Rattle.task.specs.declared.task.Result.{Result}
 use Rattle.task.specs.declared.task.Result.the-variants.{Nothing}
 use Rattle.task.specs.declared.task.State.{State}
 use Rattle.task.specs.declared.task.State.the-variants.{Ready}
+use Rattle.task.specs.declared.task.Task.{Task}
 use Rattle.task.specs.Standing.{queueOf}
 use Rattle.task.specs.Task.{noTask, goodBuffer, awaited, isSendBlocked, isReplyBlocked, taskAs}
 use Rattle.task.proofs.Stands.{stands-in}
@@ -44,10 +45,12 @@ use Rattle.kept.proofs.Tasks.{codeAt, apart, free}
 use Rattle.kept.proofs.Moves.{slot-used, stander-used, sender-head}
 use Rattle.kept.proofs.Entries.{alive-used}
 use Rattle.laws.specs.View.{othersLeft}
+use Rattle.laws.proofs.Lists.{at-set}
 use Rattle.laws.proofs.Landing.{active-code, known-state, alive-at}
 use Rattle.laws.proofs.Concerns.{Sent, Received, Replied, Signalled, left-sent, left-received, left-replied, left-signalled, left-turned, left-aside}
 
--- the turn wakes others than the caller, and leaves them, once they are woken, as `othersLeft` says; it leaves the caller and the ready queues
+-- the turn wakes others than the caller, and leaves them, once they are woken, as `othersLeft` says; it leaves the caller and the ready queues,
+-- and a task that it makes holds no result
 pub record Leaves (n : ℕ) (t : Table) (r : Request) (u : Turn) : Type 0 where
   pub wakes : ℕ → Bool
   pub row : RowFacts n wakes (u .woken)
@@ -57,10 +60,19 @@ pub record Leaves (n : ℕ) (t : Table) (r : Request) (u : Turn) : Type 0 where
   pub own : taskAt (u .table) (activeSlot t) ≡ taskAt t (activeSlot t)
   pub others : (s : ℕ) → s < usedSlots t → s ≢ activeSlot t
       → choose (wakes s) (taskAs Ready (u .told) (taskAt (u .table) s)) (taskAt (u .table) s) ≡ othersLeft t r s
+  pub unused : (s : ℕ) → usedSlots t ≤ s
+      → choose (wakes s) (taskAs Ready (u .told) (taskAt (u .table) s)) (taskAt (u .table) s) .result ≡ Nothing
 
 module _ {n : ℕ} {t : Table} (good : Good n t) (r : Request) where
   abbrev a : ℕ
   a = activeSlot t
+
+  abbrev HoldsNothing : Task → Type 0
+  HoldsNothing x = x .result ≡ Nothing
+
+  -- so does a slot that is not used
+  empty : (s : ℕ) → usedSlots t ≤ s → HoldsNothing (taskAt t s)
+  empty s past = rw (good .rules .tasks .unused s past)
 
   -- nobody is woken, and no other is concerned
   aside : {u : Turn} → u .woken ≡ emptyRow places → u .table .tasks ≡ t .tasks
@@ -76,6 +88,7 @@ module _ {n : ℕ} {t : Table} (good : Good n t) (r : Request) where
         queues = queues;
         own = rw tasks;
         others = λ s _ other. rw tasks (sym (others s other));
+        unused = λ s past. rw tasks (empty s past);
       }
 
   -- where the table stays as it is
@@ -114,6 +127,7 @@ module _ {n : ℕ} {t : Table} (good : Good n t) (r : Request) where
           others = λ s l _.
               rw (ne-eqb s u (λ e. omega arith))
               (getD-set-other (t .tasks) u s _ noTask (λ e. omega arith) ∙ sym (same s));
+          unused = λ s past. chosen HoldsNothing (eqb s u) (λ _. refl) (λ _. at-set HoldsNothing (t .tasks) u s _ noTask refl (empty s past));
         }))
 
     send-leaves : r .kind ≡ sendKind → Leaves n t r (send t a (r .arg0) (buffer (r .arg1) (r .arg2)) (buffer (r .arg3) (r .arg4)))
@@ -148,11 +162,12 @@ module _ {n : ℕ} {t : Table} (good : Good n t) (r : Request) where
           own = refl;
           others = λ s _ _. elim (ℕ-discrete s x) [
             | yes same ↦
-                rw (eq-eqb s x same)
+                rw (eq-eqb s x same, same)
                 (sym (rw (lt-ltb a (slots t) runs) at
-                (left-sent t r s (record { kind = kind; named = omega arith; state = rw same code; message = both .0; reply = both .1 }))))
+                (left-sent t r x (record { kind = kind; named = omega arith; state = code; message = both .0; reply = both .1 }))))
             | no other ↦ rw (ne-eqb s x other) (sym (unsent s (λ f. other (sym (slot s f)))))
           ];
+          unused = λ s past. rw (ne-eqb s x (λ e. omega (arith, target .1))) (empty s past);
         })
         (λ busy. aside refl refl (λ p low. getD-set-other (t .queues) (sendQueue x) (readyQueue p) _ noRow (λ e. omega arith))
         (λ s _. unsent s (λ f. eqb-false (codeAt t x) 3 busy (ap (codeAt t) (slot s f) ∙ f .state)))))))
@@ -194,6 +209,7 @@ module _ {n : ℕ} {t : Table} (good : Good n t) (r : Request) where
                 getD-set-other (t .tasks) x s _ noTask other
                 ∙ sym (spared s (λ f. other (sym (ap slotOf (f .head) ∙ slot-of-mark s))))
           ];
+          unused = λ s past. at-set HoldsNothing (t .tasks) x s _ noTask refl (empty s past);
         }))
 
     reply-leaves : r .kind ≡ replyKind → Leaves n t r (reply t a (r .arg0) (buffer (r .arg1) (r .arg2)))
@@ -225,10 +241,11 @@ module _ {n : ℕ} {t : Table} (good : Good n t) (r : Request) where
           own = refl;
           others = λ s _ _. elim (ℕ-discrete s x) [
             | yes same ↦
-                rw (eq-eqb s x same)
-                (sym (left-replied t r s (record { kind = kind; named = omega arith; state = rw same code; message = not-false _ fit })))
+                rw (eq-eqb s x same, same)
+                (sym (left-replied t r x (record { kind = kind; named = omega arith; state = code; message = not-false _ fit })))
             | no other ↦ rw (ne-eqb s x other) (sym (unanswered s (λ f. other (sym (slot s f)))))
           ];
+          unused = λ s past. rw (ne-eqb s x (λ e. omega (arith, target .1))) (empty s past);
         })))
 
     await-leaves : r .kind ≡ awaitEventKind → (e : ℕ) → Leaves n t r (awaitEvent t a e)
@@ -288,6 +305,8 @@ module _ {n : ℕ} {t : Table} (good : Good n t) (r : Request) where
         others = λ s l _. by-test (eqb (standing n (taskAt t s)) k)
             (λ own. rw own (sym (concerned s l (eqb-true _ k own))))
             (λ none. rw none (sym (others s (eqb-false _ k none))));
+        unused = λ s past.
+            rw (ne-eqb (standing n (taskAt t s)) k (λ e. omega (arith, stander-used f s k e most))) (empty s past);
       }
 
   event-leaves : r .kind ≡ eventKind → r .arg0 < events → Leaves n t r (event t (r .arg0) (r .arg1))

@@ -18,20 +18,25 @@ use Rattle.queue.specs.Rows.{noRow}
 use Rattle.queue.specs.Facts.{RowFacts}
 use Rattle.queue.proofs.Below.{by-test, first-below}
 use Rattle.tid.specs.Sizes.{priorities}
-use Rattle.tid.specs.Tid.{markOf, slotOf, tidOf}
+use Rattle.tid.specs.Tid.{markOf, slotOf, tidOf, slotNamed}
+use Rattle.tid.proofs.Trips.{slot-of-mark}
 use Rattle.task.specs.declared.task.Result.{Result}
+use Rattle.task.specs.declared.task.Result.the-variants.{Nothing}
 use Rattle.task.specs.declared.task.State.{State}
 use Rattle.task.specs.declared.task.State.the-variants.{Ready}
+use Rattle.task.specs.declared.task.Task.{Task}
 use Rattle.task.specs.Task.{noTask, isReady, taskAs}
 use Rattle.task.proofs.Tests.{chosen, clash}
 use Rattle.kernel.specs.declared.table.Table.{Table}
 use Rattle.kernel.specs.declared.table.Effect.{Effect}
+use Rattle.kernel.specs.declared.table.Decision.{Decision}
 use Rattle.kernel.specs.Table.{slots, taskAt, queueAt}
 use Rattle.kernel.specs.Moves.{leftAs, queued, joined, woken, wokenUpTo, wokenRow, rejoined, firstReady, activated, dispatched}
 use Rattle.kernel.proofs.Waking.{woken-shape}
 use Rattle.kept.proofs.Moves.{woken-other}
 use Rattle.laws.specs.View.{Ends, runs, waits}
 use Rattle.laws.proofs.Choices.{through, choose-same}
+use Rattle.laws.proofs.Lists.{at-set}
 
 -- WHO STANDS AT THE HEADS OF THE READY QUEUES
 
@@ -167,3 +172,23 @@ dispatch-seen s e t here ready =
       | no other ↦ waits (λ e. other (omega arith)) (getD-set-other (t .tasks) head s _ noTask (λ e. other (sym e)))
     ])
     (λ _. waits (λ e. omega arith) refl)
+
+-- P holds of what each task holds after a step, and of what the task that runs next is told
+pub record AllTold (P : ℕ → Result → Type 0) (d : Decision) : Type 0 where
+  pub held : (s : ℕ) → P s (taskAt (d .table) s .result)
+  pub shown : P (slotNamed (d .answer .next)) (d .answer .result)
+
+-- who runs next is told what it held, and holds nothing any more
+pub dispatch-tells : (P : ℕ → Result → Type 0) → ((s : ℕ) → P s Nothing) → (e : Effect) (t : Table) → ((s : ℕ) → P s (taskAt t s .result))
+    → AllTold P (dispatched e t)
+unfolding dispatched activated
+dispatch-tells P none e t all =
+    let p = firstReady t in
+    let head = slotOf (placeAt (queueAt t (readyQueue p)) 0) in
+    chosen (AllTold P) (ltb p priorities)
+    (λ _.
+    record {
+      held = λ s. at-set (λ (x : Task). P s (x .result)) (t .tasks) head s _ noTask (none s) (all s);
+      shown = rw slot-of-mark (all head);
+    })
+    (λ _. record { held = all; shown = none _ })

@@ -1,7 +1,7 @@
 -- The laws at their borders: cases that hold, and the next ones that do not, so that no word of a law could be loosened unseen.
 use Prim.Native.Nat.{ℕ, suc, _<_}
 use mathlib.Core.Path.{_≡_}
-use mathlib.Core.Bool.{true, false}
+use mathlib.Core.Bool.{Bool, true, false}
 use mathlib.Core.List.{List, [], _∷_, map}
 use Rattle.tid.specs.Sizes.{slotCount, priorities, events, areaBytes}
 use Rattle.task.specs.declared.task.Result.the-variants.{Value, Fault}
@@ -50,10 +50,10 @@ EachRefusalIsGiven =
 -- a value below 2^31 from tid n may be shown; 2^31 may not, from whomever, nor anything from tid n + 1
 abbrev pub ValuesEnd : Type 0
 ValuesEnd =
-    (n from v : ℕ)
-    → (v < firstNegative → goodResult n (Value n v) ≡ true)
-    × (goodResult n (Value from firstNegative) ≡ false)
-    × (goodResult n (Value (suc n) v) ≡ false)
+    (n from v : ℕ) (cut : Bool)
+    → (v < firstNegative → goodResult n (Value n cut v) ≡ true)
+    × (goodResult n (Value from cut firstNegative) ≡ false)
+    × (goodResult n (Value (suc n) cut v) ≡ false)
 
 -- of 0 to 4, 1 to 3 are faults
 abbrev pub FaultsEnd : Type 0

@@ -67,14 +67,14 @@ waitsAt t g s = isReceiveBlocked (taskAt t s .state) && eqb (awaited (taskAt t s
 abbrev pub isTurnedAway : Table → Request → ℕ → Bool
 isTurnedAway t r s = eqb (r .kind) exitKind && waitsAt t (activeTid t) s
 
--- of another task than the caller: it is woken with what it waited for, or its message is received and it waits for the reply, or its
+-- of another task than the caller: it is woken with what it waited for, whole or cut, or its message is received and it waits for the reply, or its
 -- message will not be received any more, or it is not concerned
 unfoldable pub othersLeft : Table → Request → ℕ → Task
 othersLeft t r s =
     let x = taskAt t s in
-    choose (isSentTo t r s) (taskAs Ready (Value (activeTid t) (r .arg2)) x)
+    choose (isSentTo t r s) (taskAs Ready (Value (activeTid t) (ltb (messageOf (x .state) .len) (r .arg2)) (r .arg2)) x)
     (choose (isReceivedFrom t r s) (taskAs (ReplyBlocked (replyOf (x .state))) Nothing x)
-    (choose (isRepliedTo t r s) (taskAs Ready (Value 0 (r .arg2)) x)
+    (choose (isRepliedTo t r s) (taskAs Ready (Value 0 (ltb (replyOf (x .state) .len) (r .arg2)) (r .arg2)) x)
     (choose (isSignalled t r s) (taskAs Ready (signal (r .arg1)) x)
     (choose (isTurnedAway t r s) (taskAs Ready (Fault 2) x)
     x))))
@@ -120,10 +120,10 @@ pub data Gets (s : ℕ) (o : Result) (d : Decision) : Type 0 where
   holds : taskAt (d .table) s .state ≡ Ready → taskAt (d .table) s .result ≡ o → Gets s o d
   shown : d .answer .next ≡ tidOf s → d .answer .result ≡ o → Gets s o d
 
--- what is delivered to a task by a step, from a giver's buffer to the task's: it gets the value, from whom and how long, and the bytes stand
--- in its buffer
+-- what is delivered to a task by a step, from a giver's buffer to the task's: it gets the value, from whom, how long, and cut if its own buffer is
+-- shorter; and the bytes stand there
 pub record Reaches (giver : ℕ) (given : Buffer) (s : ℕ) (taken : Buffer) (from : ℕ) (xs : List ℕ) (d : Decision) : Type 0 where
-  pub gets : Gets s (Value from (given .len)) d
+  pub gets : Gets s (Value from (ltb (taken .len) (given .len)) (given .len)) d
   pub bytes : let n = min (given .len) (taken .len) in
       bytesAt s (taken .start) n (after (d .effect) xs) ≡ bytesAt giver (given .start) n xs
 

@@ -14,7 +14,7 @@ use Rattle.queue.specs.Choose.{choose}
 use Rattle.task.specs.declared.task.Result.the-variants.{Value, Fault}
 use Rattle.task.specs.declared.task.Task.{Task}
 use Rattle.task.specs.Task.{firstNegative, stateCode}
-use Rattle.task.specs.Result.{negated}
+use Rattle.task.specs.Result.{negated, bit}
 use Rattle.kernel.specs.declared.table.Answer.{Answer}
 use Rattle.kernel.specs.declared.table.Table.{Table}
 use Rattle.kernel.specs.Table.{taskAt}
@@ -55,32 +55,36 @@ verdict-size v h = elim (decLt 0 v) [
   | no ge ↦ rw (eq-eqb v 0 (omega arith)) (omega arith)
 ]
 
-pub value-size : (from v : ℕ) → from < 256 → v < 2 ^ 32 → length (resultText (Value from v)) ≤ 17
-unfolding resultText
-value-size from v h l =
-    simp length-append (omega (arith, signed-size v l, decimal-size 2 from (omega arith)))
+bit-size : (b : Bool) → length (decimal (bit b)) ≤ 1
+bit-size true = decimal-size 0 1 (omega arith)
+bit-size false = decimal-size 0 0 (omega arith)
 
-pub fault-size : (f : ℕ) → length (resultText (Fault f)) ≤ 17
+pub value-size : (from v : ℕ) (cut : Bool) → from < 256 → v < 2 ^ 32 → length (resultText (Value from cut v)) ≤ 19
+unfolding resultText
+value-size from v cut h l =
+    simp length-append (omega (arith, signed-size v l, decimal-size 2 from (omega arith), bit-size cut))
+
+pub fault-size : (f : ℕ) → length (resultText (Fault f)) ≤ 19
 unfolding resultText
 fault-size f = omega (arith, signed-size (negated f) (omega arith))
 
-pub answer-size : (a : Answer) → a .verdict < 256 → a .next < 256 → length (resultText (a .result)) ≤ 17 → length (answerText a) ≤ 26
+pub answer-size : (a : Answer) → a .verdict < 256 → a .next < 256 → length (resultText (a .result)) ≤ 19 → length (answerText a) ≤ 28
 unfolding answerText
 answer-size a h l g =
     simp length-append (omega (arith, verdict-size (a .verdict) h, decimal-size 2 (a .next) (omega arith)))
 
-pub step-size : (step kind : ℕ) (a : Answer) → step < 2 ^ 64 → kind < 2 ^ 32 → length (answerText a) ≤ 26 → length (stepText step kind a) < longest
+pub step-size : (step kind : ℕ) (a : Answer) → step < 2 ^ 64 → kind < 2 ^ 32 → length (answerText a) ≤ 28 → length (stepText step kind a) < longest
 unfolding stepText
 step-size step kind a h l g =
     simp length-append (omega (arith, decimal-size 19 step (omega arith), signed-size kind l))
 
-pub copy-size : (source dest n : ℕ) → source < 2 ^ 64 → dest < 2 ^ 64 → n < 2 ^ 64 → length (effectText (Copy source dest n)) ≤ 64
+pub copy-size : (source dest n : ℕ) (cut : Bool) → source < 2 ^ 64 → dest < 2 ^ 64 → n < 2 ^ 64 → length (effectText (Copy source dest n cut)) ≤ 66
 unfolding effectText
-copy-size source dest n h l g =
+copy-size source dest n cut h l g =
     let of : (k : ℕ) → k < 2 ^ 64 → length (decimal k) ≤ 20 = λ k less. decimal-size 19 k (omega arith) in
-    simp length-append (omega (arith, of source h, of dest l, of n g))
+    simp length-append (omega (arith, of source h, of dest l, of n g, bit-size cut))
 
-pub write-size : (at byte : ℕ) → at < 2 ^ 64 → length (effectText (Put at byte)) ≤ 64
+pub write-size : (at byte : ℕ) → at < 2 ^ 64 → length (effectText (Put at byte)) ≤ 66
 unfolding effectText
 write-size at byte h = omega (arith, decimal-size 19 at (omega arith))
 

@@ -4,7 +4,7 @@ use mathlib.Core.List.{List, [], _∷_, _++_}
 use lib.Dec.{eqb}
 use Rattle.queue.specs.Choose.{choose}
 use Rattle.task.specs.declared.task.Result.{Result}
-use Rattle.task.specs.Result.{resultKind, resultWord, resultFrom}
+use Rattle.task.specs.Result.{resultKind, resultWord, resultFrom, resultCut}
 use Rattle.kernel.specs.declared.table.Answer.{Answer}
 use Rattle.kernel.specs.Numbers.{accepted, badRecord}
 use Rattle.lines.specs.Text.{decimal, signed}
@@ -37,11 +37,11 @@ ok = 111 ∷ 107 ∷ []
 unfoldable pub verdictText : ℕ → List ℕ
 verdictText v = choose (eqb v accepted) ok (letterR ∷ decimal v)
 
--- a minus for nothing; v, the value and from; e and the fault, a negative word
+-- a minus for nothing; v, the value, from, and whether it was cut; e and the fault, a negative word
 unfoldable pub resultText : Result → List ℕ
 resultText o =
     choose (eqb (resultKind o) 0) (minus ∷ [])
-    (choose (eqb (resultKind o) 1) (letterV ∷ space ∷ signed (resultWord o) ++ space ∷ decimal (resultFrom o))
+    (choose (eqb (resultKind o) 1) (letterV ∷ space ∷ signed (resultWord o) ++ space ∷ decimal (resultFrom o) ++ space ∷ decimal (resultCut o))
     (letterE ∷ space ∷ signed (resultWord o)))
 
 -- the verdict, the next tid and that task's result
@@ -60,7 +60,7 @@ stepText step kind a =
 
 -- no line is longer than this
 abbrev pub longest : ℕ
-longest = 60
+longest = 62
 
 -- the line of a step
 unfoldable pub lineOf : ℕ → ℕ → Answer → List ℕ

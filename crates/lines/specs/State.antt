@@ -4,6 +4,7 @@ use mathlib.Core.List.{List, [], _∷_, _++_}
 use Rattle.tid.specs.Sizes.{slotCount}
 use Rattle.task.specs.declared.task.Task.{Task}
 use Rattle.task.specs.Task.{stateCode}
+use Rattle.task.specs.Result.{bit}
 use Rattle.kernel.specs.declared.table.Table.{Table}
 use Rattle.kernel.specs.declared.table.Effect.{Effect}
 use Rattle.kernel.specs.declared.table.Effect.the-variants.{Keep, Copy, Put}
@@ -24,10 +25,11 @@ letterC = 99
 abbrev pub letterW : ℕ
 letterW = 119
 
--- a minus for nothing; c, from which place of the areas, to which, and how many bytes; w and the place of an own write
+-- a minus for nothing; c, from which place of the areas, to which, how many bytes, and whether it was cut; w and the place of an own write
 unfoldable pub effectText : Effect → List ℕ
 effectText Keep = minus ∷ []
-effectText (Copy source dest n) = letterC ∷ space ∷ decimal source ++ space ∷ decimal dest ++ space ∷ decimal n
+effectText (Copy source dest n cut) =
+    letterC ∷ space ∷ decimal source ++ space ∷ decimal dest ++ space ∷ decimal n ++ space ∷ decimal (bit cut)
 effectText (Put at byte) = letterW ∷ space ∷ decimal at
 
 -- a space, the number of a task's state, and its priority
@@ -47,6 +49,6 @@ wideLineOf step kind d =
     ++ space ∷ semicolon ∷ tasksText (d .table) (usedSlots (d .table))
     ++ newline ∷ []
 
--- no wide line is longer than this: an effect has up to three numbers of 20 digits, a task two of three
+-- no wide line is longer than this: an effect has up to three numbers of 20 digits and one of one, a task two of three
 abbrev pub longestWide : ℕ
-longestWide = longest + 70 + slotCount * 8
+longestWide = longest + 72 + slotCount * 8

@@ -5,14 +5,16 @@ ghost use Rattle.lines.specs.Text.{Appended};
 ghost use Rattle.lines.specs.Line.{verdictText, resultText, answerText, stepText, lineOf, longest, endLine};
 use crate::text::put;
 use crate::text::put_decimal;
+use crate::text::put_next;
 use crate::text::put_signed;
 use kernel::numbers::ACCEPTED;
 use kernel::numbers::BAD_RECORD;
 use kernel::table::Answer;
+use task::result::bit;
 use task::task::Result;
 
 // No line is longer than this.
-pub(crate) const LONGEST: usize = 60;
+pub(crate) const LONGEST: usize = 62;
 
 fn put_verdict(out: &mut [u8], at: usize, verdict: u8) -> usize
     ensures { λ r. ⌜ Appended (now (out .entry)) at (verdictText verdict) (now (out .exit)) r ⌝ }
@@ -25,15 +27,15 @@ fn put_verdict(out: &mut [u8], at: usize, verdict: u8) -> usize
     put_decimal(&mut *out, end, verdict as u64)
 }
 
-fn put_value(out: &mut [u8], at: usize, from: u8, value: u32) -> usize
-    ensures { λ r. ⌜ Appended (now (out .entry)) at (resultText (Result.Value from value)) (now (out .exit)) r ⌝ }
-    ensures short { λ r. ⌜ length (resultText (Result.Value from value)) ≤ 17 ⌝ }
+fn put_value(out: &mut [u8], at: usize, from: u8, cut: bool, value: u32) -> usize
+    ensures { λ r. ⌜ Appended (now (out .entry)) at (resultText (Result.Value from cut value)) (now (out .exit)) r ⌝ }
+    ensures short { λ r. ⌜ length (resultText (Result.Value from cut value)) ≤ 19 ⌝ }
 {
     let a = put(&mut *out, at, b'v');
     let b = put(&mut *out, a, b' ');
     let c = put_signed(&mut *out, b, value);
-    let d = put(&mut *out, c, b' ');
-    put_decimal(&mut *out, d, from as u64)
+    let d = put_next(&mut *out, c, from as u64);
+    put_next(&mut *out, d, bit(cut) as u64)
 }
 
 fn put_fault(out: &mut [u8], at: usize, fault: u8) -> usize
@@ -46,18 +48,18 @@ fn put_fault(out: &mut [u8], at: usize, fault: u8) -> usize
 
 fn put_result(out: &mut [u8], at: usize, result: Result) -> usize
     ensures { λ r. ⌜ Appended (now (out .entry)) at (resultText result) (now (out .exit)) r ⌝ }
-    ensures short { λ r. ⌜ length (resultText result) ≤ 17 ⌝ }
+    ensures short { λ r. ⌜ length (resultText result) ≤ 19 ⌝ }
 {
     match result {
         Result::Nothing => put(&mut *out, at, b'-'),
-        Result::Value { from, value } => put_value(&mut *out, at, from, value),
+        Result::Value { from, cut, value } => put_value(&mut *out, at, from, cut, value),
         Result::Fault(fault) => put_fault(&mut *out, at, fault),
     }
 }
 
 fn put_answer(out: &mut [u8], at: usize, answer: Answer) -> usize
     ensures { λ r. ⌜ Appended (now (out .entry)) at (answerText answer) (now (out .exit)) r ⌝ }
-    ensures short { λ r. ⌜ length (answerText answer) ≤ 26 ⌝ }
+    ensures short { λ r. ⌜ length (answerText answer) ≤ 28 ⌝ }
 {
     let result = answer.result;
     let a = put_verdict(&mut *out, at, answer.verdict);

@@ -11,42 +11,41 @@ use crate::shown::LONGEST;
 use crate::shown::put_step;
 use crate::text::put;
 use crate::text::put_decimal;
+use crate::text::put_next;
 use kernel::table::Decision;
 use kernel::table::Effect;
 use kernel::table::Table;
 use task::parts::state_code;
+use task::result::bit;
 use task::search::used_slots;
 use task::task::Task;
 use tid::sizes::SLOTS;
 
 // No wide line is longer than this.
-pub const LONGEST_WIDE: usize = LONGEST + 70 + SLOTS * 8;
+pub const LONGEST_WIDE: usize = LONGEST + 72 + SLOTS * 8;
 
-fn put_copy(out: &mut [u8], at: usize, source: usize, dest: usize, count: usize) -> usize
-    ensures { λ r. ⌜ Appended (now (out .entry)) at (effectText (Effect.Copy source dest count)) (now (out .exit)) r ⌝ }
-    ensures short { λ r. ⌜ length (effectText (Effect.Copy source dest count)) ≤ 64 ⌝ }
+fn put_copy(out: &mut [u8], at: usize, source: usize, dest: usize, count: usize, cut: bool) -> usize
+    ensures { λ r. ⌜ Appended (now (out .entry)) at (effectText (Effect.Copy source dest count cut)) (now (out .exit)) r ⌝ }
+    ensures short { λ r. ⌜ length (effectText (Effect.Copy source dest count cut)) ≤ 66 ⌝ }
 {
     let a = put(&mut *out, at, b'c');
-    let b = put(&mut *out, a, b' ');
-    let c = put_decimal(&mut *out, b, source as u64);
-    let d = put(&mut *out, c, b' ');
-    let e = put_decimal(&mut *out, d, dest as u64);
-    let f = put(&mut *out, e, b' ');
-    put_decimal(&mut *out, f, count as u64)
+    let b = put_next(&mut *out, a, source as u64);
+    let c = put_next(&mut *out, b, dest as u64);
+    let d = put_next(&mut *out, c, count as u64);
+    put_next(&mut *out, d, bit(cut) as u64)
 }
 
 fn put_write(out: &mut [u8], at: usize, place: usize, byte: u8) -> usize
     ensures { λ r. ⌜ Appended (now (out .entry)) at (effectText (Effect.Put place byte)) (now (out .exit)) r ⌝ }
-    ensures short { λ r. ⌜ length (effectText (Effect.Put place byte)) ≤ 64 ⌝ }
+    ensures short { λ r. ⌜ length (effectText (Effect.Put place byte)) ≤ 66 ⌝ }
 {
     let a = put(&mut *out, at, b'w');
-    let b = put(&mut *out, a, b' ');
-    put_decimal(&mut *out, b, place as u64)
+    put_next(&mut *out, a, place as u64)
 }
 
 fn put_effect(out: &mut [u8], at: usize, effect: Effect) -> usize
     ensures { λ r. ⌜ Appended (now (out .entry)) at (effectText effect) (now (out .exit)) r ⌝ }
-    ensures short { λ r. ⌜ length (effectText effect) ≤ 64 ⌝ }
+    ensures short { λ r. ⌜ length (effectText effect) ≤ 66 ⌝ }
 {
     match effect {
         Effect::Keep => put(&mut *out, at, b'-'),
@@ -54,7 +53,8 @@ fn put_effect(out: &mut [u8], at: usize, effect: Effect) -> usize
             source,
             dest,
             count,
-        } => put_copy(&mut *out, at, source, dest, count),
+            cut,
+        } => put_copy(&mut *out, at, source, dest, count, cut),
         Effect::Put { at: place, byte } => put_write(&mut *out, at, place, byte),
     }
 }

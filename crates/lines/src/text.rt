@@ -3,6 +3,7 @@
 ghost use mathlib.Core.Path.{_≡_};
 ghost use mathlib.Core.List.{[], _∷_};
 ghost use Rattle.lines.specs.Text.{Appended, digit, decimal, signed};
+ghost use Rattle.lines.specs.Line.{space};
 use task::task::FIRST_NEGATIVE;
 
 pub(crate) fn put(out: &mut [u8], at: usize, byte: u8) -> usize
@@ -41,4 +42,12 @@ pub(crate) fn put_signed(out: &mut [u8], at: usize, w: u32) -> usize
     }
     let end = put(&mut *out, at, b'-');
     put_decimal(&mut *out, end, 4294967296 - w as u64)
+}
+
+// A space, and a number behind it.
+pub(crate) fn put_next(out: &mut [u8], at: usize, n: u64) -> usize
+    ensures { λ r. ⌜ Appended (now (out .entry)) at (space ∷ decimal n) (now (out .exit)) r ⌝ }
+{
+    let end = put(&mut *out, at, b' ');
+    put_decimal(&mut *out, end, n)
 }

@@ -1,6 +1,7 @@
 -- The image of a table is its records, and nothing else is.
 use Prim.Native.Nat.{ℕ, _*_}
-use mathlib.Core.Path.{_≡_, sym}
+use mathlib.Core.Path.{_≡_, sym, subst}
+use mathlib.Core.Bool.{true}
 use mathlib.Core.List.{List}
 use native.Mathlib.Omega.{arith}
 use lib.Seq.{take-all}
@@ -8,9 +9,10 @@ use Rattle.kernel.specs.declared.table.Table.{Table}
 use Rattle.kernel.specs.Table.{slots}
 use Rattle.image.specs.Bytes.{recordAt}
 use Rattle.image.specs.Record.{recordLength, recordOf}
-use Rattle.image.specs.Image.{imageOf}
+use Rattle.image.specs.Image.{imageOf, tableOf, isImage}
 use Rattle.image.proofs.Bytes.{length-inOrder}
 use Rattle.image.proofs.Record.{length-recordOf}
+use Rattle.image.proofs.Laws.{write-back}
 use Rattle.image.proofs.Exact.{in-order-same, image-is, record-found, records-all}
 use Rattle.records.specs.Records.{Records}
 
@@ -25,3 +27,10 @@ pub records-image : (n : ℕ) (t : Table) (b : List ℕ) → slots t ≡ n → R
 records-image n t b size r =
     rw (image-is t n size, ← in-order-same (recordAt recordLength b) (recordOf t) n (r .each), records-all n b n)
     (sym (take-all (n * recordLength) b (omega arith)))
+
+-- bytes that are an image are the records of the table that they are read as
+pub read-records : (n : ℕ) (b : List ℕ) → isImage n b ≡ true → Records n (recordOf (tableOf n b)) b
+read-records n b image =
+    let t = tableOf n b in
+    let (good, same) = write-back n image in
+    subst (λ (x : List ℕ). Records n (recordOf t) x) same (image-records n t (good .rules .size))

@@ -11,3 +11,4 @@ pub mod Leaves
 pub mod Wakes
 pub mod Fresh
 pub mod Targets
+pub mod Cuts

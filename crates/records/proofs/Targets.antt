@@ -1,6 +1,6 @@
 -- In an image the target of a record that sends has a record of its own, of a task that exists.
 use Prim.Native.Nat.{ℕ, _<_}
-use mathlib.Core.Path.{_≡_, sym, subst, _∙_}
+use mathlib.Core.Path.{_≡_, sym, _∙_}
 use mathlib.Core.Bool.{true}
 use mathlib.Core.List.{List}
 use native.Mathlib.Omega.{arith}
@@ -14,20 +14,19 @@ use Rattle.rules.proofs.Good.{facts-good}
 use Rattle.rules.proofs.Targets.{target-lives}
 use Rattle.kept.proofs.Moves.{slot-used}
 use Rattle.kept.proofs.Tasks.{codeAt}
-use Rattle.image.specs.Record.{atState, atAwaited, recordOf, byteAt}
+use Rattle.image.specs.Record.{atState, atAwaited, byteAt}
 use Rattle.image.specs.Image.{tableOf, isImage}
 use Rattle.image.proofs.Laws.{write-back}
-use Rattle.records.specs.Records.{Records}
-use Rattle.records.proofs.Images.{image-records}
+use Rattle.records.proofs.Images.{read-records}
 use Rattle.records.proofs.Tasks.{code-told, awaited-told}
 
 pub target-lives-in : (n : ℕ) (b : List ℕ) (s : ℕ) → isImage n b ≡ true → s < n → byteAt b s atState ≡ 4
     → let code = byteAt b (slotNamed (byteAt b s atAwaited)) atState in (0 < code) × (code < 7)
 target-lives-in n b s image l four =
     let t = tableOf n b in
-    let (good, same) = write-back n image in
+    let good = write-back n image .0 in
     let f = good .rules in
-    let records : Records n (recordOf t) b = subst (λ (x : List ℕ). Records n (recordOf t) x) same (image-records n t (f .size)) in
+    let records = read-records n b image in
     let g = awaited (taskAt t s .state) in
     let sends = sym (code-told f records s l) ∙ four in
     let lives = target-lives t (facts-good n t good) s (omega (arith, f .size)) (eq-eqb (codeAt t s) 4 sends) in

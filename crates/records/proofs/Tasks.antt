@@ -6,12 +6,13 @@ use mathlib.Core.List.{List}
 use native.Mathlib.Omega.{arith}
 use Rattle.queue.proofs.Below.{by-test}
 use Rattle.task.specs.declared.task.Task.{Task}
+use Rattle.task.specs.Result.{resultKind, resultCut}
 use Rattle.task.specs.Task.{noTask, stateCode, awaited, isUsed, messageOf, replyOf}
 use Rattle.kernel.specs.declared.table.Table.{Table}
 use Rattle.kernel.specs.Table.{taskAt}
 use Rattle.kept.proofs.Tasks.{codeAt}
 use Rattle.image.specs.Bytes.{recordAt}
-use Rattle.image.specs.Record.{recordLength, atState, atPriority, atParent, atAwaited, atMessage, atReply, storedPlace, fields, taskRecord, recordOf, byteIn, bufferIn, resultPartsIn, resultOf, usedFrom, byteAt}
+use Rattle.image.specs.Record.{recordLength, atState, atPriority, atParent, atAwaited, atResult, atMessage, atReply, atCut, storedPlace, fields, taskRecord, recordOf, byteIn, bufferIn, resultPartsIn, resultOf, usedFrom, byteAt}
 use Rattle.image.proofs.Record.{Storable, buffer-back, used-back}
 use Rattle.image.proofs.Restored.{storable}
 use Rattle.rules.specs.Facts.{Waking}
@@ -45,6 +46,14 @@ module _ {n used a : ℕ} {w : ℕ → Bool} {t : Table} {b : List ℕ} (f : Wak
   pub awaited-told : (s : ℕ) → s < n → byteAt b s atAwaited ≡ awaited (taskAt t s .state)
   unfolding taskRecord
   awaited-told = byte-told atAwaited (omega arith) (λ x. awaited (x .state)) (λ _ _. refl) refl
+
+  pub kind-told : (s : ℕ) → s < n → byteAt b s atResult ≡ resultKind (taskAt t s .result)
+  unfolding taskRecord
+  kind-told = byte-told atResult (omega arith) (λ x. resultKind (x .result)) (λ _ _. refl) refl
+
+  pub cut-told : (s : ℕ) → s < n → byteAt b s atCut ≡ resultCut (taskAt t s .result)
+  unfolding taskRecord
+  cut-told = byte-told atCut (omega arith) (λ x. resultCut (x .result)) (λ _ _. refl) refl
 
 -- The same of a stage.
 module _ {n used a : ℕ} {w : ℕ → Bool} {t : Table} {b count : List ℕ} (g : Stage n used a w t b count) where

@@ -45,7 +45,7 @@ cell-spared t r g least offset i low e xs lands out other = spared e xs (placeIn
     spares : (e : Effect) → Lands t r e → (copies e ≡ true → InBuffer (parties t r) (slotNamed g) (offset + i) → ⊥)
         → Spares e (placeIn (slotNamed g) (offset + i))
     spares Keep lands out = tt
-    spares (Copy from to m) lands out = λ j h same. out refl (copy-writes lands (slotNamed g) (offset + i) j low h same)
+    spares (Copy from to m cut) lands out = λ j h same. out refl (copy-writes lands (slotNamed g) (offset + i) j low h same)
     spares (Put at byte) lands out = λ same. other (lands .own) (put-writes lands (slotNamed g) (offset + i) low same ∙ tid-named g least)
 
 -- a server receives into a buffer that ends where its answer begins

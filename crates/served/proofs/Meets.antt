@@ -41,13 +41,14 @@ pub data Meets (size : ℕ) (t : Table) (r : Request) (s : ℕ) (p p′ : Phase)
   turns : taskAt t s .state ≡ Active → r .kind ≢ sendKind → r .kind ≢ receiveKind → Unread p′ → Waits size (left t r s) p′ → Meets size t r s p p′
   -- it takes the message of the first who waits
   takes : (h : ℕ) → taskAt t s .state ≡ Active → r ≡ receives size → isReceivedFrom t r h ≡ true → p′ ≡ Listening
-      → left t r s .state ≡ Ready → left t r s .result ≡ Value (tidOf h) (messageOf (taskAt t h .state) .len) → Meets size t r s p p′
+      → left t r s .state ≡ Ready
+      → left t r s .result ≡ Value (tidOf h) (ltb size (messageOf (taskAt t h .state) .len)) (messageOf (taskAt t h .state) .len) → Meets size t r s p p′
   -- it begins to listen
   listens : taskAt t s .state ≡ Active → r ≡ receives size → queueAt t (sendQueue s) .len ≡ 0 → p′ ≡ Listening
       → left t r s .state ≡ SendBlocked (buffer 0 size) → Meets size t r s p p′
   -- a message is sent to it
   hears : taskAt t s .state ≡ SendBlocked (buffer 0 size) → isSentTo t r s ≡ true → p ≡ Listening → p′ ≡ p
-      → left t r s .state ≡ Ready → left t r s .result ≡ Value (activeTid t) (r .arg2) → Meets size t r s p p′
+      → left t r s .state ≡ Ready → left t r s .result ≡ Value (activeTid t) (ltb size (r .arg2)) (r .arg2) → Meets size t r s p p′
   -- it is not concerned
   aside : s ≢ activeSlot t → Waits size (taskAt t s) p → (Sent t r s → ⊥) → p′ ≡ p → left t r s ≡ taskAt t s → Meets size t r s p p′
 
@@ -81,7 +82,7 @@ module _ {n : ℕ} {t : Table} (good : Good n t) (r : Request) (s : ℕ) (other 
           by-test (isSentTo t r s)
           (λ i.
           let sent = left-other t r s other ∙ left-sent t r s (sent-facts t r s i) in
-          hears e i l refl (ap (λ (x : Task). x .state) sent) (ap (λ (x : Task). x .result) sent))
+          hears e i l refl (ap (λ (x : Task). x .state) sent) (ap (λ (x : Task). x .result) sent ∙ rw e))
           (λ unsent. unmoved (λ f. clash (facts-sent t r s f) unsent))
 
 -- AN ENTRY OF ITS OWN, or one that interrupts it

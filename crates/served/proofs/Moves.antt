@@ -58,9 +58,9 @@ active-is {n} {t} good g least e =
 told-goes : {M : Type 0} (sv : Service M) (q : Serving M) (o : Result) (area : List ℕ) → goesOn (q .phase) o ≡ true
     → busy (told sv q o area .phase) ≡ true
 told-goes sv q Nothing area h = h
-told-goes sv q (Value from v) area h = go (q .phase) refl h
+told-goes sv q (Value from cut v) area h = go (q .phase) refl h
   where
-    go : (p : Phase) → q .phase ≡ p → goesOn p (Value from v) ≡ true → busy (valueIn sv p q from v area .phase) ≡ true
+    go : (p : Phase) → q .phase ≡ p → goesOn p (Value from cut v) ≡ true → busy (valueIn sv p q from cut v area .phase) ≡ true
     go Making e h = ap busy e
     go Made e h = refl
     go (Writing k) e h = ap busy e

@@ -2,17 +2,18 @@
 use Prim.Native.Nat.{ℕ, _+_, _≤_, _<_, min}
 use mathlib.Core.Path.{_≡_, refl, sym, ap, subst, _∙_}
 use mathlib.Core.Logic.{_≢_}
-use mathlib.Core.Bool.{true}
+use mathlib.Core.Bool.{true, false}
 use mathlib.Core.List.{_∷_, []}
 use native.Mathlib.Omega.{arith}
 use lib.ListN.{length, getD}
 use lib.Dec.{ltb}
-use borrow.Author.Tests.{eqb-true, eq-eqb, ltb-true, lt-ltb, le-leb}
+use borrow.Author.Tests.{eqb-true, eq-eqb, ltb-true, lt-ltb, le-ltb, le-leb}
 use Rattle.queue.proofs.Below.{by-test, both-true}
 use Rattle.tid.specs.Sizes.{areaBytes}
 use Rattle.tid.specs.Tid.{tidOf, slotNamed}
 use Rattle.tid.proofs.Trips.{tid-named}
 use Rattle.task.specs.declared.task.Buffer.{Buffer}
+use Rattle.task.specs.declared.task.Result.{Result}
 use Rattle.task.specs.declared.task.Result.the-variants.{Value}
 use Rattle.task.specs.declared.task.State.the-variants.{ReplyBlocked}
 use Rattle.task.specs.declared.task.Task.{Task}
@@ -65,7 +66,7 @@ reply-phase p priority size len byte tid r same kind = go p same
 one-reaches : {M : Type 0} (sv : Service M) (fits : Fits sv) {n g : ℕ} (w : World (Serving M)) (r : Request) (b : Buffer) → Serves sv n g w
     → asksNow g w r ≡ true → r ≡ request sv (w .state) → r .kind ≡ replyKind
     → 1 ≤ r .arg0 → taskAt (w .table) (slotNamed (r .arg0)) .state ≡ ReplyBlocked b → sv .size ≤ b .len
-    → Gets (slotNamed (r .arg0)) (Value 0 (sv .size)) (decided w r)
+    → Gets (slotNamed (r .arg0)) (Value 0 false (sv .size)) (decided w r)
     × (bytesIn (r .arg0) (b .start) (sv .size) (areasAfter w r) ≡ w .state .answer)
 unfolding refusalOf
 one-reaches sv fits {n} {g} w r b serves asks same kind some blocked enough =
@@ -83,8 +84,9 @@ one-reaches sv fits {n} {g} w r b serves asks same kind some blocked enough =
     rw (kind, eq-eqb (r .arg0) (tidOf x) (sym (tid-named (r .arg0) some)), blocked, start, len) (le-leb (size + size) areaBytes (fits .room)) in
     let reach = replyReaches n t r (w .areas) x b (serves .steps) entry replied blocked in
     let least : min (r .arg2) (b .len) ≡ size = omega (arith, len) in
+    let whole : ltb (b .len) (r .arg2) ≡ false = le-ltb (b .len) (r .arg2) (omega (arith, len)) in
     let given : bytesAt (activeSlot t) (r .arg1) (min (r .arg2) (b .len)) (w .areas) ≡ bytesIn g size size (w .areas) = rw (least, start, ← mine) in (
-      subst (λ (v : ℕ). Gets x (Value 0 v) (decided w r)) len (reach .gets),
+      subst (λ (o : Result). Gets x o (decided w r)) (λ i. Value 0 (whole i) (len i)) (reach .gets),
       ap (λ (m : ℕ). bytesIn (r .arg0) (b .start) m (areasAfter w r)) (sym least) ∙ reach .bytes ∙ given
           ∙ answer-stands sv fits w serves k phase low,
     )

@@ -42,14 +42,14 @@ module _ {M : Type 0} (sv : Service M) (fits : Fits sv) where
       go o Making e past = absurd (true≢false past)
       go o Made e past = absurd (true≢false past)
       go Nothing (Writing k) e past = none
-      go (Value from v) (Writing k) e past = rw e none
+      go (Value from cut v) (Writing k) e past = rw e none
       go (Fault f) (Writing k) e past = rw e none
       go Nothing (Replying k) e past = none
-      go (Value from v) (Replying k) e past = rw e none
+      go (Value from cut v) (Replying k) e past = rw e none
       go (Fault f) (Replying k) e past = rw e none
       go Nothing Listening e past = none
       go (Fault f) Listening e past = rw e none
-      go (Value from v) Listening e past =
+      go (Value from cut v) Listening e past =
           let l : Letter = record { from = from; length = v; bytes = take (min v (sv .size)) area } in
           rw (e, fits .front (q .mind) from v area) (one l refl)
 

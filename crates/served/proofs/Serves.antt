@@ -66,11 +66,11 @@ pub told-keeps : {M : Type 0} (sv : Service M) (P : Serving M → Type 0) (q : S
     → ((from v : ℕ) → q .phase ≡ Listening → P (answering sv (q .priority) (sv .hear (q .mind) from v area)))
     → P (told sv q o area)
 told-keeps sv P q Nothing area old named new = old
-told-keeps sv P q (Value from v) area old named new = go (q .phase) refl
+told-keeps sv P q (Value from cut v) area old named new = go (q .phase) refl
   where
-    go : (p : Phase) → q .phase ≡ p → P (valueIn sv p q from v area)
+    go : (p : Phase) → q .phase ≡ p → P (valueIn sv p q from cut v area)
     go Making e = old
-    go Made e = named (Value from v)
+    go Made e = named (Value from cut v)
     go (Writing k) e = old
     go (Replying k) e = old
     go Listening e = new from v e

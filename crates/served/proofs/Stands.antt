@@ -31,12 +31,12 @@ elsewhere-unread Listening other size o area = absurd (other refl)
 abbrev pub goesOn : Phase → Result → Bool
 goesOn Making o = true
 goesOn Made Nothing = false
-goesOn Made (Value from v) = true
+goesOn Made (Value from cut v) = true
 goesOn Made (Fault f) = true
 goesOn (Writing k) o = true
 goesOn (Replying k) o = true
 goesOn Listening Nothing = false
-goesOn Listening (Value from v) = true
+goesOn Listening (Value from cut v) = true
 goesOn Listening (Fault f) = false
 
 -- whatever it is told

@@ -95,4 +95,4 @@ module _ {M : Type 0} (sv : Service M) where
       Obeys (serving sv) g asleep rs′
       → 1 ≤ r .arg0 → taskAt (asleep .table) x .state ≡ ReplyBlocked b → sv .size ≤ b .len → NoReplyTo (r .arg0) (Run.run (asleep .table) (asleep .areas) rs′)
       → asksNow g now r ≡ true → r ≡ request sv (now .state) → r .kind ≡ replyKind
-      → Gets x (Value 0 (sv .size)) (decided now r) × (bytesIn (r .arg0) (b .start) (sv .size) (areasAfter now r) ≡ now .state .answer)
+      → Gets x (Value 0 false (sv .size)) (decided now r) × (bytesIn (r .arg0) (b .start) (sv .size) (areasAfter now r) ≡ now .state .answer)

@@ -31,7 +31,7 @@ pub record Letter : Type 0 where
 
 abbrev pub copies : Effect → Bool
 copies Keep = false
-copies (Copy source dest n) = true
+copies (Copy source dest n cut) = true
 copies (Put at byte) = false
 
 -- the letter that a step brings to tid g, out of areas xs: a delivery to g that is no reply
@@ -56,7 +56,7 @@ lettersTo g xs (d ∷ ds) = letterIn g xs d ++ lettersTo g (d .areas) ds
 -- the letter that a value is to a server that listens: its bytes stand at the front of the area
 abbrev pub letterOf : ℕ → Result → List ℕ → List Letter
 letterOf size Nothing area = []
-letterOf size (Value from v) area = record { from = from; length = v; bytes = take (min v size) area } ∷ []
+letterOf size (Value from cut v) area = record { from = from; length = v; bytes = take (min v size) area } ∷ []
 letterOf size (Fault f) area = []
 
 abbrev pub readIn : Phase → ℕ → Result → List ℕ → List Letter

@@ -9,7 +9,7 @@ use Rattle.task.specs.declared.task.Result.{Result}
 use Rattle.task.specs.declared.task.Result.the-variants.{Nothing}
 use Rattle.kernel.specs.declared.table.Request.{Request}
 use Rattle.image.specs.Bytes.{bytesOf, numberIn}
-use Rattle.image.specs.Call.{requestLength, atKind, atSender, answerFrom}
+use Rattle.image.specs.Call.{requestLength, atKind, atSender, atCutWord, answerFrom}
 
 -- bytes with a word put at a place, where there is room for all four
 abbrev pub withWord : List ℕ → ℕ → ℕ → List ℕ
@@ -29,9 +29,11 @@ requestBytes r =
 abbrev pub requested : Request → List ℕ → List ℕ
 requested r bytes = choose (eqb (length bytes) requestLength) (requestBytes r) bytes
 
--- the result that an answer tells (`answerFrom`); a kind or a sender of more than a byte, which no answer of the kernel has, tells nothing
+-- the result that an answer tells (`answerFrom`); a kind or a sender of more than a byte, or a last word above 1, which no answer of the
+-- kernel has, tells nothing
 unfoldable pub resultIn : List ℕ → Result
 resultIn answer =
     choose (ltb 255 (numberIn answer atKind 4)) Nothing
     (choose (ltb 255 (numberIn answer atSender 4)) Nothing
-    (answerFrom answer .result))
+    (choose (ltb 1 (numberIn answer atCutWord 4)) Nothing
+    (answerFrom answer .result)))

@@ -1,6 +1,7 @@
 -- A service, and the task that serves it: a machine from what it is told, and from its own area, to what it asks next. The kernel is not named
 -- here but by its requests and results.
 use Prim.Native.Nat.{ℕ}
+use mathlib.Core.Bool.{Bool}
 use mathlib.Core.List.{List, []}
 use lib.ListN.{length, getD}
 use lib.Dec.{eqb}
@@ -66,12 +67,12 @@ module _ {M : Type 0} (sv : Service M) where
       record { priority = q .priority; mind = q .mind; answer = q .answer; to = q .to; phase = after (q .phase) (sv .size) (length (q .to)) }
 
   -- a value is a message while it listens, and names the task that was made where it waits for that; nothing else matters to it
-  abbrev pub valueIn : Phase → Serving M → ℕ → ℕ → List ℕ → Serving M
-  valueIn Making q from v area = q
-  valueIn Made q from v area = opened q (Value from v)
-  valueIn (Writing k) q from v area = q
-  valueIn (Replying k) q from v area = q
-  valueIn Listening q from v area = answering (q .priority) (sv .hear (q .mind) from v area)
+  abbrev pub valueIn : Phase → Serving M → ℕ → Bool → ℕ → List ℕ → Serving M
+  valueIn Making q from cut v area = q
+  valueIn Made q from cut v area = opened q (Value from cut v)
+  valueIn (Writing k) q from cut v area = q
+  valueIn (Replying k) q from cut v area = q
+  valueIn Listening q from cut v area = answering (q .priority) (sv .hear (q .mind) from v area)
 
   abbrev pub faultIn : Phase → Serving M → ℕ → Serving M
   faultIn Making q f = q
@@ -82,7 +83,7 @@ module _ {M : Type 0} (sv : Service M) where
 
   abbrev pub told : Serving M → Result → List ℕ → Serving M
   told q Nothing area = q
-  told q (Value from v) area = valueIn (q .phase) q from v area
+  told q (Value from cut v) area = valueIn (q .phase) q from cut v area
   told q (Fault f) area = faultIn (q .phase) q f
 
   -- the task that serves

@@ -3,6 +3,7 @@
 // No plan of the borrow checker covers a reference to a struct, so the two functions here are proved by a walk of their
 // code. Whoever calls `taken` passes and gets values, and is covered.
 ghost use mathlib.Core.Path.{_≡_};
+ghost use Rattle.task.specs.Result as Shown;
 ghost use Rattle.task.specs.Task.{cleared, takenFrom};
 use crate::task::Result;
 use crate::task::Taken;
@@ -24,4 +25,11 @@ pub fn taken(task: Task) -> Taken
     let mut told = task;
     let result = take_result(&mut told);
     Taken { task: told, result }
+}
+
+// 1 for true, 0 for false: what stands for `cut` in records, answers and lines.
+pub fn bit(x: bool) -> u8
+    ensures { λ r. ⌜ r ≡ Shown.bit x ⌝ }
+{
+    if x { 1 } else { 0 }
 }

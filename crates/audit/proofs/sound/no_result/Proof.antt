@@ -9,4 +9,4 @@ returns c = rw (c .blank-word .ensures)
 pub no-result-spec : {M : Type 1} → statement M
 no-result-spec =
     tie.close
-    (tie.spec (λ c. search needs) (λ c. search needs) (λ c κs. search needs) returns)
+    (tie.spec (λ c. search needs) (λ c. search needs) (λ c. search needs) (λ c κs. search needs) returns)

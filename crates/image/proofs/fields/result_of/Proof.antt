@@ -8,7 +8,7 @@ use Rattle.image.proofs.fields.result_of.Statement.{statement}
 use Rattle.image.proofs.fields.result_of.Tie as tie
 
 returns : tie.Need-returns
-returns c = rw (c .if1 .taken)
+returns c = rw (c .before .if1 .taken)
 
 returns-2 : tie.Need-returns-2
 returns-2 c =

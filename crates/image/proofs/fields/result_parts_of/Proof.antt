@@ -8,12 +8,12 @@ returns : tie.Need-returns
 returns c = rw (c .enum-told .given .1)
 
 returns-2 : tie.Need-returns-2
-returns-2 c = rw (c .before .result .given .1)
+returns-2 c = rw (c .bit .ensures, c .before .before .result .given .1)
 
 returns-3 : tie.Need-returns-3
 returns-3 c = let (told, same) = c .before .before .result2 .given in
     let word = negated-wraps (c .wrapping-sub-u32 .result) (told .0) (search needs) (search needs) (c .wrapping-sub-u32 .ensures) in
-    rw same (λ i. record { kind = 2; from = 0; word = word i })
+    rw same (λ i. record { kind = 2; from = 0; cut = 0; word = word i })
 
 pub result-parts-of-spec : {M : Type 1} → statement M
 result-parts-of-spec =
@@ -21,6 +21,7 @@ result-parts-of-spec =
     (tie.spec
     (λ c. search needs)
     (λ c. search needs)
+    (λ c κs. search needs)
     (λ c. search needs)
     (λ c. search needs)
     (λ c κs. search needs)

@@ -21,7 +21,8 @@ returns-2 c =
 
 returns-3 : tie.Need-returns-3
 returns-3 c =
-    let wrote = c .before .before .before in
+    let told = c .before in
+    let wrote = told .before .before .before in
     let made = wrote .before in
     let named = made .before .before .before in
     let room = named .before in
@@ -29,7 +30,7 @@ returns-3 c =
     let start = known .before .before in
     let (running, begins) = start .pre in
     let a = start .args in
-    rw (c .tid-of2 .ensures, wrote .put .ensures, made .fields-of .ensures, named .tid-of .ensures, in-byte (a .c) (omega arith), in-byte (a .used) (omega arith))
+    rw (c .number .ensures, told .tid-of2 .ensures, wrote .put .ensures, made .fields-of .ensures, named .tid-of .ensures, in-byte (a .c) (omega arith), in-byte (a .used) (omega arith))
     (create-adds begins (omega arith) running (a .priority) (known .if1 .left) (room .if2 .left))
 
 pub create-spec : {M : Type 1} → statement M
@@ -49,5 +50,6 @@ create-spec =
     (λ c. search needs)
     (λ c κs. search needs)
     (λ c. search needs)
+    (λ c κs. search needs)
     (λ c. search needs)
     returns-3)

@@ -8,11 +8,11 @@ use Rattle.inplace.proofs.kinds.delivers.Tie as tie
 
 returns : tie.Need-returns
 returns c =
-    let taker = c .before in
+    let copied = c .before in
+    let taker = copied .before in
     let giver = taker .before in
-    let from = giver .before in
-    let a = from .before .args in
-    rw (c .delivery .ensures, taker .tid-of3 .ensures, giver .tid-of2 .ensures, from .tid-of .ensures, in-byte (a .s) (omega arith), in-byte (a .c) (omega arith), slot-of-mark (a .s), slot-of-mark (a .c))
+    let a = giver .before .args in
+    rw (c .is-cut .ensures, copied .delivery .ensures, taker .tid-of2 .ensures, giver .tid-of .ensures, in-byte (a .s) (omega arith), in-byte (a .c) (omega arith), slot-of-mark (a .s), slot-of-mark (a .c))
 
 pub delivers-spec : {M : Type 1} → statement M
 delivers-spec =

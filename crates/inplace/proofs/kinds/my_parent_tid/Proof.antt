@@ -1,6 +1,5 @@
 -- `my_parent_tid`: the byte of the record, made wide.
 use Prim.Native.Nat.{_*_, _+_}
-use mathlib.Core.Path.{_∙_}
 use native.Mathlib.Omega.{arith}
 use borrow.Author.Needs.{needs}
 use Rattle.image.specs.Record.{recordLength, atParent}
@@ -13,7 +12,7 @@ cast-number c =
     omega (arith, c .wide .ensures, known .shared-slice-known .given (known .before .args .c * recordLength + atParent))
 
 returns : tie.Need-returns
-returns c = c .number .ensures ∙ rw (c .before .wide .ensures)
+returns c = rw (c .resumes .ensures, c .before .number .ensures, c .before .before .wide .ensures)
 
 pub my-parent-tid-spec : {M : Type 1} → statement M
 my-parent-tid-spec =
@@ -24,5 +23,6 @@ my-parent-tid-spec =
     (λ c. search needs)
     (λ c κs. search needs)
     cast-number
+    (λ c κs. search needs)
     (λ c κs. search needs)
     returns)

@@ -69,10 +69,10 @@ leave-requires c κs = let l = sends (c .before .before .before .before .before 
 
 returns-3 : tie.Need-returns-3
 returns-3 c =
-    let taker = c .before in
+    let copied = c .before in
+    let taker = copied .before in
     let giver = taker .before in
-    let from = giver .before in
-    let left = from .before .before .before in
+    let left = giver .before .before .before in
     let second = left .before .before in
     let first = second .before .before in
     let closed = first .before .before .before .before in
@@ -86,7 +86,7 @@ returns-3 c =
     let l = sends closed in
     let head = rw (own named) at (closed .close-up .ensures .head) in
     let bytes = rw (own named) at (closed .close-up .ensures .image) in
-    rw (c .delivery .ensures, taker .tid-of4 .ensures, giver .tid-of3 .ensures, from .tid-of2 .ensures, in-byte s (omega arith), in-byte (a .c) (omega arith), slot-of-mark s, slot-of-mark (a .c))
+    rw (c .is-cut .ensures, copied .delivery .ensures, taker .tid-of3 .ensures, giver .tid-of2 .ensures, in-byte s (omega arith), in-byte (a .c) (omega arith), slot-of-mark s, slot-of-mark (a .c))
     (receive-takes begins (omega arith) running (a .b) (fit fits) s head (some .if2 .left) _ _ (first .buffer-at .result) (second .buffer-at2 .result) bytes (first .buffer-at .ensures) (second .buffer-at2 .ensures) (left .leave .ensures))
 
 pub receive-spec : {M : Type 1} → statement M

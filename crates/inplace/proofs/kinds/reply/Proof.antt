@@ -46,10 +46,11 @@ returns-3 c =
 
 returns-4 : tie.Need-returns-4
 returns-4 c =
-    let taker = c .before in
+    let cut = c .before in
+    let copied = cut .before in
+    let taker = copied .before in
     let giver = taker .before in
-    let copied = giver .before in
-    let read = copied .before in
+    let read = giver .before in
     let fits = read .before in
     let judged = fits .before in
     let waits = judged .before in
@@ -60,7 +61,7 @@ returns-4 c =
     let a = start .args in
     let s = asked .alive .result in
     let good : goodBuffer (a .b) ≡ true = sym (judged .good-buffer .ensures) ∙ not-false (judged .good-buffer .result) (fits .if3 .left) in
-    rw (c .delivery .ensures, taker .tid-of2 .ensures, giver .tid-of .ensures, copied .least .ensures, in-byte s (omega arith), in-byte (a .c) (omega arith), slot-of-mark s, slot-of-mark (a .c))
+    rw (c .least .ensures, cut .is-cut .ensures, copied .delivery .ensures, taker .tid-of2 .ensures, giver .tid-of .ensures, in-byte s (omega arith), in-byte (a .c) (omega arith), slot-of-mark s, slot-of-mark (a .c))
     (reply-delivers begins (omega arith) running s (a .target) (asked .alive .ensures) (a .b) (there .if1 .left) (waits .if2 .left) good (read .buffer-at .result) (read .buffer-at .ensures))
 
 pub reply-spec : {M : Type 1} → statement M
@@ -79,6 +80,7 @@ reply-spec =
     (λ c κs. search needs)
     returns-3
     (λ c. search needs)
+    (λ c κs. search needs)
     (λ c κs. search needs)
     (λ c κs. search needs)
     (λ c κs. search needs)

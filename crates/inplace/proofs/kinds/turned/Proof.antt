@@ -80,10 +80,10 @@ returns c = let call = c .before .before in rw (call .before .before .before .ma
 returns-2 : tie.Need-returns-2
 unfolding turnOf
 returns-2 c =
-    let named = c .before in
+    let named = c .before .before in
     let at = named .before in
     let start = at .before .before in
-    rw (c .number .ensures, named .tid-of .ensures, in-byte (start .args .c) (omega arith), at .match .keys2)
+    rw (c .resumes .ensures, c .before .number .ensures, named .tid-of .ensures, in-byte (start .args .c) (omega arith), at .match .keys2)
     (my-tid-ends (start .pre .1) (omega arith) (running start (omega (arith, at .match .keys2))))
 
 returns-3 : tie.Need-returns-3
@@ -97,9 +97,9 @@ returns-3 c =
 returns-4 : tie.Need-returns-4
 unfolding turnOf
 returns-4 c =
-    let at = c .before in
+    let at = c .before .before in
     let start = at .before .before in
-    rw (c .number2 .ensures, at .match .keys4) (yield-ends (start .pre .1) (omega arith) (running start (omega (arith, at .match .keys4))))
+    rw (c .resumes2 .ensures, c .before .number2 .ensures, at .match .keys4) (yield-ends (start .pre .1) (omega arith) (running start (omega (arith, at .match .keys4))))
 
 returns-5 : tie.Need-returns-5
 unfolding turnOf
@@ -146,7 +146,9 @@ turned-spec =
     (λ c κs. search needs)
     (λ c. search needs)
     (λ c κs. search needs)
+    (λ c κs. search needs)
     my-parent-tid-requires
+    (λ c κs. search needs)
     (λ c κs. search needs)
     exit-requires
     (λ c κs. search needs)

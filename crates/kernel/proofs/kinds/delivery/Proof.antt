@@ -5,9 +5,10 @@ use Rattle.kernel.proofs.kinds.delivery.Tie as tie
 
 returns : tie.Need-returns
 returns c =
-    let taker = c .before .before in
+    let measured = c .before .before in
+    let taker = measured .before .before in
     let giver = taker .before .before in
-    rw (c .least .ensures, taker .slot-named2 .ensures .0, giver .slot-named .ensures .0)
+    rw (measured .least .ensures, taker .slot-named2 .ensures .0, giver .slot-named .ensures .0)
 
 pub delivery-spec : {M : Type 1} → statement M
 delivery-spec =

@@ -10,13 +10,15 @@ returns : tie.Need-returns
 unfolding resultText
 returns c =
     let f = c .before .before in
-    let e = f .before .before .before .before in
+    let told = f .before in
+    let e = told .before .before .before .before in
     let d = e .before .before .before .before in
     let b = d .before .before .before .before in
     let a = b .before .before .before .before in
+    let from = then (a .put .ensures) (then (b .put2 .ensures) (then (d .put-signed .ensures) (e .put-next .ensures))) in
     let asked = a .before .before .before .args in (
-      then (a .put .ensures) (then (b .put2 .ensures) (then (d .put-signed .ensures) (then (e .put3 .ensures) (f .put-decimal .ensures)))),
-      value-size (asked .from) (asked .value) (search needs) (search needs),
+      then from (rw (told .bit .ensures) at (f .put-next2 .ensures)),
+      value-size (asked .from) (asked .value) (asked .cut) (search needs) (search needs),
     )
 
 pub put-value-spec : {M : Type 1} → statement M
@@ -27,6 +29,8 @@ put-value-spec =
     (λ c κs. search needs)
     (λ c κs. search needs)
     (λ c κs. search needs)
+    (λ c κs. search needs)
+    (λ c. search needs)
     (λ c κs. search needs)
     (λ c. search needs)
     returns)

@@ -1,4 +1,4 @@
--- `state::put_copy`: seven texts, one behind the other.
+-- `state::put_copy`: five texts, one behind the other.
 use native.Mathlib.Omega.{arith}
 use borrow.Author.Needs.{needs}
 use Rattle.lines.specs.State.{effectText}
@@ -10,20 +10,18 @@ use Rattle.lines.proofs.state.put_copy.Tie as tie
 returns : tie.Need-returns
 unfolding effectText
 returns c =
-    let h = c .before .before in
-    let g = h .before .before .before .before in
-    let f = g .before .before .before .before in
-    let e = f .before .before .before .before in
+    let f = c .before .before in
+    let told = f .before in
+    let e = told .before .before .before .before in
     let d = e .before .before .before .before in
     let b = d .before .before .before .before in
     let a = b .before .before .before .before in
     let start = a .before .before .before in
     let asked = start .args in
-    let source = then (a .put .ensures) (then (b .put2 .ensures) (d .put-decimal .ensures)) in
-    let dest = then (e .put3 .ensures) (f .put-decimal2 .ensures) in
-    let count = then (g .put4 .ensures) (h .put-decimal3 .ensures) in (
-      then (then source dest) count,
-      copy-size (asked .source) (asked .dest) (asked .count) (omega (arith, start .fits .source)) (omega (arith, start .fits .dest)) (omega (arith, start .fits .count)),
+    let ends = then (then (a .put .ensures) (b .put-next .ensures)) (d .put-next2 .ensures) in
+    let count = then ends (e .put-next3 .ensures) in (
+      then count (rw (told .bit .ensures) at (f .put-next4 .ensures)),
+      copy-size (asked .source) (asked .dest) (asked .count) (asked .cut) (omega (arith, start .fits .source)) (omega (arith, start .fits .dest)) (omega (arith, start .fits .count)),
     )
 
 pub put-copy-spec : {M : Type 1} → statement M
@@ -35,7 +33,7 @@ put-copy-spec =
     (λ c κs. search needs)
     (λ c κs. search needs)
     (λ c κs. search needs)
-    (λ c κs. search needs)
+    (λ c. search needs)
     (λ c κs. search needs)
     (λ c. search needs)
     returns)
