@@ -24,7 +24,7 @@ static void ask(uint8_t kind, uint8_t argument)
  * and sends. Then task 1 waits, and so do the tasks that do not send, so that the server is active. */
 static void prepare(int senders)
 {
-    if (kernel_start(FIRST, image, sizeof image) != BREDONYCH_ACCEPTED)
+    if (kernel_start(FIRST, 0, image, sizeof image) != BREDONYCH_ACCEPTED)
         exit(1);
     ask(BREDONYCH_CREATE, BELOW);
     for (int i = 0; i < BREDONYCH_TASKS - SERVER; i++) {

@@ -31,5 +31,6 @@ END {
     row("code on a Cortex-M4, bytes", "code")
     row("stack of `kernel_step` there, bytes", "kernel_step")
     row("stack of `kernel_start` there, bytes", "kernel_start")
+    row("stack of `kernel_convert` there, bytes", "kernel_convert")
     for (i = 1; i <= proofs; i++) row("proof of " substr(proof[i], 9) ", seconds", proof[i])
 }

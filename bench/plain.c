@@ -30,6 +30,7 @@ struct task {
     struct queue senders;
     struct buffer message, reply;
     struct result result;
+    uint32_t entry;
     uint8_t state, tid, priority, parent;
     uint8_t awaited; /* the target or the event */
 };
@@ -107,22 +108,23 @@ static struct task *existing(int32_t tid)
     return tid >= 1 && tid <= used && tasks[tid - 1].state != EXITED ? &tasks[tid - 1] : NULL;
 }
 
-static void make(uint8_t priority, uint8_t parent)
+static void make(uint8_t priority, uint32_t entry, uint8_t parent)
 {
     struct task *t = &tasks[used++];
     t->tid = used;
     t->priority = priority;
+    t->entry = entry;
     t->parent = parent;
     wake(t, NOTHING, 0);
 }
 
-void plain_start(uint8_t priority)
+void plain_start(uint8_t priority, uint32_t entry)
 {
     memset(tasks, 0, sizeof tasks);
     memset(ready, 0, sizeof ready);
     memset(waiter, 0, sizeof waiter);
     used = 0, filled = 0;
-    make(priority, 0);
+    make(priority, entry, 0);
     dispatch();
 }
 
@@ -181,14 +183,14 @@ static void reply(struct task *me, const int32_t *arg, uint8_t *areas)
     wake_with(me, (struct result){VALUE, 0, copied.cut, copied.count});
 }
 
-static void create(struct task *me, int32_t priority)
+static void create(struct task *me, int32_t priority, int32_t entry)
 {
     if (priority < 0 || priority >= PLAIN_PRIORITIES) {
         wake(me, FAULT, -1);
     } else if (used == PLAIN_TASKS) {
         wake(me, FAULT, -2);
     } else {
-        make((uint8_t)priority, me->tid);
+        make((uint8_t)priority, (uint32_t)entry, me->tid);
         wake(me, VALUE, used);
     }
 }
@@ -229,7 +231,7 @@ struct plain_answer plain_step(const struct plain_request *q, uint8_t *areas)
     struct task *me = active;
     int32_t fault;
     switch (q->kind) {
-    case CREATE: create(me, q->arg[0]); break;
+    case CREATE: create(me, q->arg[0], q->arg[1]); break;
     case MY_TID: wake(me, VALUE, me->tid); break;
     case MY_PARENT_TID: wake(me, VALUE, me->parent); break;
     case YIELD: wake(me, VALUE, 0); break;
@@ -266,13 +268,20 @@ static void put_buffer(uint8_t *b, struct buffer x)
     b[2] = (uint8_t)x.length, b[3] = (uint8_t)(x.length >> 8);
 }
 
+static void put_word(uint8_t *b, uint32_t x)
+{
+    for (int i = 0; i < 4; i++)
+        b[i] = (uint8_t)(x >> 8 * i);
+}
+
 void plain_image(uint8_t *image)
 {
     memset(image, 0, PLAIN_IMAGE);
     for (uint8_t s = 0; s < used; s++) {
         const struct task *t = &tasks[s];
-        uint8_t *b = image + 20 * s;
+        uint8_t *b = image + PLAIN_RECORD * s;
         b[0] = t->state, b[1] = t->priority, b[2] = t->parent;
+        put_word(b + 20, t->entry);
         if (t->state == RECEIVE_BLOCKED || t->state == EVENT_BLOCKED)
             b[4] = t->awaited;
         if (t->state == RECEIVE_BLOCKED)
@@ -282,11 +291,9 @@ void plain_image(uint8_t *image)
         if (t->state == RECEIVE_BLOCKED || t->state == REPLY_BLOCKED)
             put_buffer(b + 10, t->reply);
         if (t->state == READY) {
-            uint32_t word = (uint32_t)t->result.number;
             b[3] = place(&ready[t->priority], t);
             b[5] = t->result.kind, b[14] = t->result.from, b[15] = t->result.cut;
-            for (int i = 0; i < 4; i++)
-                b[16 + i] = (uint8_t)(word >> 8 * i);
+            put_word(b + 16, (uint32_t)t->result.number);
         }
     }
 }

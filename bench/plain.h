@@ -4,7 +4,7 @@
 
 #include <stdint.h>
 
-enum { PLAIN_TASKS = 32, PLAIN_PRIORITIES = 32, PLAIN_EVENTS = 64, PLAIN_AREA = 256, PLAIN_IMAGE = PLAIN_TASKS * 20 };
+enum { PLAIN_TASKS = 32, PLAIN_PRIORITIES = 32, PLAIN_EVENTS = 64, PLAIN_AREA = 256, PLAIN_RECORD = 24, PLAIN_IMAGE = PLAIN_TASKS * PLAIN_RECORD };
 
 struct plain_request {
     int32_t kind, arg[5];
@@ -16,7 +16,7 @@ struct plain_answer {
     uint32_t from, cut;
 };
 
-void plain_start(uint8_t priority);
+void plain_start(uint8_t priority, uint32_t entry);
 struct plain_answer plain_step(const struct plain_request *q, uint8_t *areas);
 void plain_image(uint8_t *image); /* the table as stored records, to compare it */
 

@@ -61,7 +61,8 @@ static void make_all(void)
                 go(KIND_SEND, 2, 0, 4, 0, 4);
         }
         uint32_t above = tid % 2 == 1 ? 2 : 12;
-        go(KIND_CREATE, (int32_t)(serves(tid) ? tid * 3 % 4 + above : 4 + tid * 5 % 8), 0, 0, 0, 0);
+        int32_t entry = -(int32_t)tid; /* a word of which no byte is 0 */
+        go(KIND_CREATE, (int32_t)(serves(tid) ? tid * 3 % 4 + above : 4 + tid * 5 % 8), entry, 0, 0, 0);
     }
 }
 
@@ -163,7 +164,7 @@ int main(int argc, char **argv)
         return 2;
     }
     servers = tasks == 2 ? 1 : tasks <= 16 ? 4 : 8;
-    table_start(&table, FIRST_PRIORITY);
+    table_start(&table, FIRST_PRIORITY, 0);
     make_all();
     unsigned long made = all;
     for (unsigned long i = 0; i < steps; i++)

@@ -1,6 +1,7 @@
 /* Feeds byte-entry cases to kernel_step, on any target. A case is the image, areas, record and answer, each a length (four bytes,
    little-endian) and its bytes; what is written for it is the verdict (four bytes) and the four again, as the call left them. Before
-   the cases, kernel_start is called with some priorities and lengths, and each verdict and image is written. */
+   the cases, kernel_start is called with some priorities, entry numbers and lengths, and kernel_convert with images of both forms, good
+   and not; each verdict is written, and the image that there is then. */
 #include <stdint.h>
 #include <unistd.h>
 #include "bredonych.h"
@@ -48,12 +49,13 @@ static int word_write(uint32_t word)
 
 static int starts(void)
 {
-    static const uint32_t priority[] = { 0, 16, 31, 32, UINT32_MAX, 16, 16 };
-    static const uint32_t bytes[] = { 640, 640, 640, 640, 640, 639, 0 };
-    for (int i = 0; i < 7; i++) {
+    static const uint32_t priority[] = { 0, 16, 31, 32, UINT32_MAX, 16, 16, 16 };
+    static const uint32_t entry[] = { 0, 0x04030201, UINT32_MAX, 1, 1, 1, 1, 1 };
+    static const uint32_t bytes[] = { 768, 768, 768, 768, 768, 767, 640, 0 };
+    for (int i = 0; i < 8; i++) {
         for (int at = 0; at < BREDONYCH_IMAGE; at++) chunk[0][at] = at;
         watch_begin();
-        uint32_t verdict = kernel_start(priority[i], chunk[0], bytes[i]);
+        uint32_t verdict = kernel_start(priority[i], entry[i], chunk[0], bytes[i]);
         watch_end();
         if (!word_write(verdict) || !whole_write(chunk[0], BREDONYCH_IMAGE)) return 0;
     }
@@ -61,9 +63,49 @@ static int starts(void)
     return 1;
 }
 
+/* From chunk 0 into chunk 2, which is filled before. */
+static int converted(uint32_t from, uint32_t to)
+{
+    for (int at = 0; at < BREDONYCH_IMAGE; at++) chunk[2][at] = at;
+    watch_begin();
+    uint32_t verdict = kernel_convert(chunk[0], from, chunk[2], to);
+    watch_end();
+    return word_write(verdict) && whole_write(chunk[2], BREDONYCH_IMAGE);
+}
+
+/* A full table, in which no entry number is in the way. */
+static void fill(void)
+{
+    static const uint8_t create[BREDONYCH_REQUEST] = { BREDONYCH_CREATE, 0, 0, 0, 20 };
+    kernel_start(16, 0, chunk[0], BREDONYCH_IMAGE);
+    for (int i = 1; i < BREDONYCH_TASKS; i++)
+        kernel_step(chunk[0], BREDONYCH_IMAGE, chunk[1], BREDONYCH_AREAS, create, sizeof create, chunk[3], BREDONYCH_ANSWER);
+}
+
+static int converts(void)
+{
+    static const uint32_t bytes[] = { 768, 640, 767, 639, 0 };
+    fill();
+    for (int i = 0; i < 5; i++)
+        if (!converted(768, bytes[i])) return 0;
+    chunk[0][31 * BREDONYCH_RECORD + BREDONYCH_ENTRY + 3] = 1; /* the last task's entry number: taken, but not by the old form */
+    if (!converted(768, 768) || !converted(768, 640)) return 0;
+    chunk[0][1] = BREDONYCH_PRIORITIES; /* and a priority that is none */
+    if (!converted(768, 768) || !converted(768, 640)) return 0;
+    fill();
+    if (!converted(768, 640)) return 0;
+    for (int at = 0; at < BREDONYCH_OLD_IMAGE; at++) chunk[0][at] = chunk[2][at];
+    for (int i = 0; i < 5; i++)
+        if (!converted(640, bytes[i])) return 0;
+    chunk[0][1] = BREDONYCH_PRIORITIES;
+    if (!converted(640, 768)) return 0;
+    watch_report("kernel_convert");
+    return 1;
+}
+
 int main(void)
 {
-    if (!starts()) return 1;
+    if (!starts() || !converts()) return 1;
     while (word_read(&length[0])) {
         for (int i = 0; i < CHUNKS; i++) {
             if (i > 0 && !word_read(&length[i])) return 1;

@@ -1,6 +1,7 @@
 /* A host with a clock: three channels of a mixer bring their gains up in steps, each at its own pace, by asking the clock to be woken.
  * Task 1 makes the clock, which makes its notifier, and then the channels. The host raises the tick's event whenever nobody runs; on a
- * board a timer does, every 10 ms. Compiled with -DRECORDS=1 it writes the requests that are made, as kernel-run reads them. */
+ * board a timer does, every 10 ms. Every entry number is 0, which the clock gives its notifier too: this host tells its tasks apart by
+ * their ids. Compiled with -DRECORDS=1 it writes the requests that are made, as kernel-run reads them. */
 #include <stdio.h>
 #include <stdlib.h>
 #include <string.h>
@@ -166,13 +167,13 @@ static int done(void)
 {
     int exited = 0;
     for (int i = 0; i < CHANNELS; i++)
-        exited += image[(FIRST_CHANNEL - 1 + i) * (BREDONYCH_IMAGE / BREDONYCH_TASKS)] == 7;
+        exited += image[(FIRST_CHANNEL - 1 + i) * BREDONYCH_RECORD] == 7;
     return exited == CHANNELS;
 }
 
 int main(void)
 {
-    must("the kernel", kernel_start(16, image, sizeof image));
+    must("the kernel", kernel_start(16, 0, image, sizeof image));
     must("the clock", clock_start(1, clock_state, sizeof clock_state));
     must("the notifier", notifier_start(TICK_EVENT, notifier_state, sizeof notifier_state));
     uint32_t active = BOARD;

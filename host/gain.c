@@ -1,12 +1,19 @@
 /* A host with three tasks: a client, a gain task that answers what the gain is, and a panel that asks for it when a key is pressed.
  * The gain task exits after one reading. The panel, whose question it has not received, is told a fault and does not hang; the client
  * asks again and is told a fault and not a number, although the old number still lies in its memory. Before it uses a reply the client
- * asks whether that came whole. */
+ * asks whether that came whole.
+ *
+ * Which code the next task runs the host finds by the entry number in that task's record, which the start or a Create gave it, and by
+ * nothing that it keeps itself: an image that was stored says who runs what, whoever starts the host again. A number that is none of this
+ * host's is no reason to call anything. */
 #include <stdio.h>
 #include <stdlib.h>
 #include "bredonych.h"
 
-enum { CLIENT = 1, GAIN = 2, PANEL = 3, KEY = 1, ASKED = 0, READING = 8, TRUE_GAIN = 42 };
+enum { CLIENT = 1, GAIN = 2, KEY = 1, ASKED = 0, READING = 8, TRUE_GAIN = 42 };
+
+/* The entry numbers of this host. 0 is none of them: it stands with tasks that were made before there were entry numbers. */
+enum { GAIN_CODE = 1, PANEL_CODE, CLIENT_CODE };
 
 static uint8_t image[BREDONYCH_IMAGE], areas[BREDONYCH_AREAS];
 
@@ -46,11 +53,12 @@ static struct told client(struct told told)
     static int stage;
     switch (stage++) {
     case 0:
-        printf("client: makes the gain task, of a higher priority\n");
-        return ask(BREDONYCH_CREATE, 8, 0, 0, 0, 0);
+        printf("client: makes the gain task, of a higher priority and entry number %d\n", GAIN_CODE);
+        return ask(BREDONYCH_CREATE, 8, GAIN_CODE, 0, 0, 0);
     case 1:
-        printf("client: the gain task is task %d; makes the panel, of a still higher priority\n", (int)told.word);
-        return ask(BREDONYCH_CREATE, 4, 0, 0, 0, 0);
+        printf("client: the gain task is task %d; makes the panel, of a still higher priority and entry number %d\n", (int)told.word,
+               PANEL_CODE);
+        return ask(BREDONYCH_CREATE, 4, PANEL_CODE, 0, 0, 0);
     case 2:
         printf("client: the panel is task %d; asks the gain task for the gain\n", (int)told.word);
         return ask(BREDONYCH_SEND, GAIN, ASKED, 1, READING, 1);
@@ -117,13 +125,26 @@ static struct told gain(struct told told)
     }
 }
 
+static struct told (*const code[])(struct told) = {[GAIN_CODE] = gain, [PANEL_CODE] = panel, [CLIENT_CODE] = client};
+
+/* Runs the task that is told something, by the code of its entry number. */
+static struct told run(struct told told)
+{
+    uint32_t entry = word_at(image + (told.next - 1) * BREDONYCH_RECORD + BREDONYCH_ENTRY);
+    if (entry >= sizeof code / sizeof code[0] || !code[entry]) {
+        printf("task %u has entry number %u, and this host has no such code\n", (unsigned)told.next, (unsigned)entry);
+        exit(1);
+    }
+    return code[entry](told);
+}
+
 int main(void)
 {
-    if (kernel_start(16, image, sizeof image) != BREDONYCH_ACCEPTED)
+    if (kernel_start(16, CLIENT_CODE, image, sizeof image) != BREDONYCH_ACCEPTED)
         return 1;
-    printf("a kernel starts: task 1 is the client\n");
+    printf("a kernel starts: task 1 is the client, of entry number %d\n", CLIENT_CODE);
     struct told told = {CLIENT, BREDONYCH_NOTHING, 0, 0, BREDONYCH_WHOLE};
     while (told.next != 0)
-        told = told.next == GAIN ? gain(told) : told.next == PANEL ? panel(told) : client(told);
+        told = run(told);
     return 1;
 }

@@ -6,7 +6,18 @@
  * from them later. Of other code they call memcpy, memmove and memset alone.
  *
  * The buffers of one call must not overlap, and nothing else may read or write them until it returns. They need no alignment.
- * All numbers are little-endian. */
+ * All numbers are little-endian.
+ *
+ * Which code a task runs is the host's affair, and the image tells it: a record keeps the entry number that its task was made
+ * with, any 32 bits, of which the kernel makes no use. A host gives each function of its tasks a number and hands that to
+ * kernel_start or to a Create. By the word at image + (tid - 1) * BREDONYCH_RECORD + BREDONYCH_ENTRY it finds the function of
+ * task tid, also in an image that was stored before the host was started again:
+ *
+ *     const uint8_t *b = image + (tid - 1) * BREDONYCH_RECORD + BREDONYCH_ENTRY;
+ *     uint32_t entry = b[0] | (uint32_t)b[1] << 8 | (uint32_t)b[2] << 16 | (uint32_t)b[3] << 24;
+ *
+ * Any word may stand there: ask whether it is one of the host's numbers before a function is looked up by it, as host/gain.c
+ * does. */
 #ifndef BREDONYCH_H
 #define BREDONYCH_H
 
@@ -18,7 +29,10 @@ extern "C" {
 
 /* Lengths in bytes, and numbers of things. */
 enum bredonych_size {
-    BREDONYCH_IMAGE = 640,    /* 32 records of 20 bytes */
+    BREDONYCH_IMAGE = 768,    /* 32 records of 24 bytes */
+    BREDONYCH_RECORD = 24,    /* what is stored of one task, that of task 1 first */
+    BREDONYCH_ENTRY = 20,     /* where the entry number stands in a record: its last four bytes */
+    BREDONYCH_OLD_IMAGE = 640, /* the form before it, 32 records of 20 bytes without entry numbers: for kernel_convert alone */
     BREDONYCH_AREAS = 8192,   /* 32 areas */
     BREDONYCH_AREA = 256,     /* the bytes that a task owns */
     BREDONYCH_REQUEST = 24,   /* a kind and five arguments, four bytes each, signed */
@@ -31,7 +45,7 @@ enum bredonych_size {
 /* What a request asks. The caller is the active task, except for an event, which comes from the hardware.
  * A buffer is an offset and a length within the task's own area. */
 enum bredonych_kind {
-    BREDONYCH_CREATE = 1,        /* priority: make a task; the value is its id */
+    BREDONYCH_CREATE = 1,        /* priority, entry number: make a task; the value is its id. Any entry number is taken */
     BREDONYCH_MY_TID = 2,        /* the value is the caller's id */
     BREDONYCH_MY_PARENT_TID = 3, /* the value is its parent's id, 0 for task 1 */
     BREDONYCH_YIELD = 4,         /* let others run; the value is 0 */
@@ -53,10 +67,11 @@ enum bredonych_verdict {
     BREDONYCH_NONE_ACTIVE = 4,  /* no task is active, and this is no event */
     BREDONYCH_BAD_RECORD = 5,   /* the request is not 24 bytes */
     BREDONYCH_BAD_PRIORITY = 6, /* kernel_start: the priority is outside 0 to 31 */
-    BREDONYCH_BAD_IMAGE = 7,    /* the image is not 640 bytes */
+    BREDONYCH_BAD_IMAGE = 7,    /* the image is not 768 bytes; kernel_convert: image or out is neither 640 nor 768 */
     BREDONYCH_BAD_EVENT = 8,    /* the event that happened is outside 0 to 63 */
     BREDONYCH_BAD_WRITE = 9,    /* own write: offset or value outside 0 to 255 */
-    BREDONYCH_BAD_ANSWER = 10   /* the answer is not 24 bytes; nothing is written to it */
+    BREDONYCH_BAD_ANSWER = 10,  /* the answer is not 24 bytes; nothing is written to it */
+    BREDONYCH_ENTRY_LOST = 11   /* kernel_convert: an entry number is not 0, and the old form has no place for it */
 };
 
 /* What the next task is told, the third word of an answer. */
@@ -94,16 +109,24 @@ enum bredonych_cut {
     BREDONYCH_CUT = 1 /* the buffer is full, and the end of what was sent is missing */
 };
 
-/* Starts a kernel: writes the image in which task 1, of this priority, is active, and answers 0. A priority outside 0 to 31
- * is refused by 6, whatever the image's length; then an image that is not 640 bytes by 7. A refusal writes no byte. The areas
- * are the host's to clear. */
-uint32_t kernel_start(uint32_t priority, uint8_t *image, uint64_t image_length);
+/* Starts a kernel: writes the image in which task 1, of this priority and this entry number, is active, and answers 0. A priority
+ * outside 0 to 31 is refused by 6, whatever the image's length; then an image that is not 768 bytes by 7. No entry number is
+ * refused. A refusal writes no byte. The areas are the host's to clear. */
+uint32_t kernel_start(uint32_t priority, uint32_t entry, uint8_t *image, uint64_t image_length);
 
 /* One step: does what the request asks and answers the verdict, which is also the answer's first word. The image and the areas
  * are changed in place; refused, they are left as they are, and the answer says who is active (refusals 3, 4, 8 and 9) or 0.
  * Refused by 10, the answer is not written either. */
 uint32_t kernel_step(uint8_t *image, uint64_t image_length, uint8_t *areas, uint64_t areas_length, const uint8_t *request,
                      uint64_t request_length, uint8_t *answer, uint64_t answer_length);
+
+/* Converts an image: reads the one at image and writes the same kernel to out, each in the form that has its length, 640 or 768
+ * bytes, and answers 0. From the old form to the new every entry number is 0; from the new to the old all have to be 0, those of
+ * tasks that have exited too. Equal lengths copy what was checked. Refused by 7 where either length is no form's; then by 2 where the
+ * image breaks a rule of a table; then by 11 where an entry number would be lost. A refusal writes no byte. image and out must not
+ * overlap: nothing is converted in place. kernel_step takes the new form alone, so a host that was updated converts what it had
+ * stored, once. */
+uint32_t kernel_convert(const uint8_t *image, uint64_t image_length, uint8_t *out, uint64_t out_length);
 
 #ifdef __cplusplus
 }

@@ -7,6 +7,7 @@
 
 unsigned long cover_paths[PATHS];
 unsigned long cover_rules[RULES][8];
+unsigned long cover_ways[RULES][WAYS];
 unsigned cover_rule, cover_state;
 
 #define TEXT(name, text) text,
@@ -22,6 +23,7 @@ static const unsigned rule_mask[] = {COVER_RULES(MASK)};
 static const char *const state_text[] = {
     "unused", "active", "ready", "send-b", "recv-b", "reply-b", "event-b",
     "exited"};
+static const char *const way_text[WAYS] = {"up", "down", "old-old", "new-new"};
 
 static FILE *counts(const char *mode)
 {
@@ -39,6 +41,8 @@ void cover_load(void)
         cover_paths[i] += n;
     for (int i = 0; i < RULES * 8 && fscanf(f, "%lu", &n) == 1; i++)
         cover_rules[i / 8][i % 8] += n;
+    for (int i = 0; i < RULES * WAYS && fscanf(f, "%lu", &n) == 1; i++)
+        cover_ways[i / WAYS][i % WAYS] += n;
     fclose(f);
 }
 
@@ -51,6 +55,8 @@ void cover_save(void)
         fprintf(f, "%lu\n", cover_paths[i]);
     for (int i = 0; i < RULES * 8; i++)
         fprintf(f, "%lu\n", cover_rules[i / 8][i % 8]);
+    for (int i = 0; i < RULES * WAYS; i++)
+        fprintf(f, "%lu\n", cover_ways[i / WAYS][i % WAYS]);
     fclose(f);
 }
 
@@ -87,9 +93,30 @@ static int print_rules(void)
     return missed;
 }
 
+static int print_ways(void)
+{
+    int missed = 0;
+    printf("\nconversions refused by 2, by rule and by where they go\n%-28s",
+           "");
+    for (int way = 0; way < WAYS; way++)
+        printf(" %7s", way_text[way]);
+    printf("\n");
+    for (int i = 0; i < RULES; i++) {
+        printf("%-28s", rule_text[i]);
+        for (int way = 0; way < WAYS; way++) {
+            printf(" %7lu", cover_ways[i][way]);
+            missed += cover_ways[i][way] == 0;
+        }
+        printf("\n");
+    }
+    return missed;
+}
+
 static int cover_print(void)
 {
-    int missed = print_paths() + print_rules();
+    int missed = print_paths();
+    missed += print_rules();
+    missed += print_ways();
     for (int i = 0; i < PATHS; i++)
         if (cover_paths[i] == 0)
             printf("never reached: %s\n", path_text[i]);
@@ -97,6 +124,10 @@ static int cover_print(void)
         if (rule_mask[i / 8] >> i % 8 & 1 && cover_rules[i / 8][i % 8] == 0)
             printf("never reached: rule \"%s\", state %s\n",
                    rule_text[i / 8], state_text[i % 8]);
+    for (int i = 0; i < RULES * WAYS; i++)
+        if (cover_ways[i / WAYS][i % WAYS] == 0)
+            printf("never reached: rule \"%s\", conversion %s\n",
+                   rule_text[i / WAYS], way_text[i % WAYS]);
     return missed > 0;
 }
 
@@ -272,6 +303,7 @@ void cover_taken(const struct table *k)
 {
     bool sending = false, exited = false;
     cover_cut_taken(k);
+    cover_entry_taken(k);
     for (uint32_t tid = 1; tid <= k->used; tid++) {
         const struct task *t = &k->task[tid];
         enum state target;

@@ -1,7 +1,8 @@
 /* What the comparison must have reached, and the marks that count it. Only a
  * build with -DCOVER counts; in every other build the marks vanish. Each mark
- * in kernel.c, image.c, clock.c and main.c is a line of its own with MARK in
- * it, so that without these lines the programs are what their authors wrote. */
+ * in kernel.c, image.c, convert.c, clock.c and main.c is a line of its own with
+ * MARK in it, so that without these lines the programs are what their authors
+ * wrote. */
 #ifndef PEER_COVER_H
 #define PEER_COVER_H
 
@@ -100,6 +101,8 @@
     X(SHOW_IDLE, "shown: no ready task") \
     CUT_PATHS(X) \
     DOOR_PATHS(X) \
+    ENTRY_PATHS(X) \
+    CONVERT_PATHS(X) \
     CLOCK_PATHS(X)
 
 /* Rules of a table; the mask says for which states of the record at fault a
@@ -163,6 +166,9 @@ enum cover_rule { COVER_RULES(COVER_NAME) RULES };
 
 extern unsigned long cover_paths[PATHS];
 extern unsigned long cover_rules[RULES][8];
+/* The ways of a conversion, in the order of WAY_PATHS; the rules by them. */
+enum cover_way { WAY_UP, WAY_DOWN, WAY_OLD_OLD, WAY_NEW_NEW, WAYS };
+extern unsigned long cover_ways[RULES][WAYS];
 extern unsigned cover_rule;  /* asked last, so the broken one if one is */
 extern unsigned cover_state; /* of the record that it was asked of */
 
@@ -195,6 +201,19 @@ enum cover_rule cover_cut_rule(uint8_t cut, uint32_t kind);
 void cover_cut_bad(const uint8_t *image, struct request q);
 void cover_answer(uint64_t answer, uint64_t record, const uint8_t *image,
                   uint64_t image_length, uint64_t areas);
+void cover_entry_taken(const struct table *k);
+void cover_entry_left(const struct table *k, struct request q,
+                      uint32_t verdict);
+bool cover_entry_only(const uint8_t *image);
+void cover_entry_bad(const uint8_t *image, struct request q);
+void cover_image(const uint8_t *image, uint64_t length, uint64_t areas);
+void cover_wrong(enum cover_path first, uint64_t length);
+void cover_started(uint32_t refusal, uint32_t entry, uint64_t length);
+bool cover_unlike(uint32_t entry);
+uint32_t cover_would(const uint8_t *image, bool old);
+void cover_converted(const uint8_t *image, uint64_t image_length,
+                     const uint8_t *out, uint64_t out_length,
+                     uint32_t refusal);
 void cover_no_sleepers(void);
 void cover_recorded(const struct clock *c, const struct clock_message *m);
 void cover_heard(const struct clock *c, const struct clock_message *m,
@@ -251,6 +270,16 @@ void cover_ticked(const struct clock *c, const struct clock_answers *given);
 #define MARK_ANSWER(answer, record, image, image_length, areas) \
     cover_answer(answer, record, image, image_length, areas)
 
+/* Entries: of an image before a step and after it, of a slot that is no task's,
+ * of a start; the lengths of images; conversions. */
+#define MARK_ENTRY_LEFT(k, q, verdict) cover_entry_left(k, q, verdict)
+#define MARK_ENTRY_BAD(image, q) cover_entry_bad(image, q)
+#define MARK_IMAGE(image, length, areas) cover_image(image, length, areas)
+#define MARK_STARTED(refusal, entry, length) \
+    cover_started(refusal, entry, length)
+#define MARK_CONVERTED(image, image_length, out, out_length, refusal) \
+    cover_converted(image, image_length, out, out_length, refusal)
+
 /* A rule is asked of a record; MARK_RULE counts the one asked last. */
 #define MARK_RECORD(state) ((void)(cover_state = (state)))
 #define MARK_ASK(rule) ((void)(cover_rule = (rule)))
@@ -285,6 +314,11 @@ void cover_ticked(const struct clock *c, const struct clock_answers *given);
 #define MARK_TARGETS(k) ((void)0)
 #define MARK_TAKEN(k) ((void)0)
 #define MARK_CLOSED(q) ((void)0)
+#define MARK_ENTRY_LEFT(k, q, verdict) ((void)0)
+#define MARK_ENTRY_BAD(image, q) ((void)0)
+#define MARK_IMAGE(image, length, areas) ((void)0)
+#define MARK_STARTED(refusal, entry, length) ((void)0)
+#define MARK_CONVERTED(image, image_length, out, out_length, refusal) ((void)0)
 #define MARK_MESSAGE(told, receiver, sender, cut) ((void)0)
 #define MARK_REPLY_CUT(replier, sender, cut) ((void)0)
 #define MARK_CUT_SHOWN(tid, result) ((void)0)

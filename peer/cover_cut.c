@@ -150,6 +150,7 @@ void cover_answer(uint64_t answer, uint64_t record, const uint8_t *image,
         return;
     broken = image_length == IMAGE_BYTES && !table_read(&k, image);
     MARK_IF(image_length != IMAGE_BYTES, ORDER_10_7);
+    MARK_IF(image_length == OLD_IMAGE_BYTES, IMAGE_OLD_10);
     MARK_IF(areas != AREAS_BYTES, ORDER_10_1);
     MARK_IF(broken, ORDER_10_2);
     if (broken || record != RECORD_BYTES || image_length != IMAGE_BYTES ||

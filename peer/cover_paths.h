@@ -1,4 +1,4 @@
-/* The paths that belong to one request each: the clock's, P2's and P8's. */
+/* The paths that belong to one request each: the clock's, P2's, P8's, P9's. */
 #ifndef PEER_COVER_PATHS_H
 #define PEER_COVER_PATHS_H
 
@@ -189,5 +189,137 @@
     X(ORDER_10_7, "refusal 10 where 7 holds too") \
     X(ORDER_10_1, "refusal 10 where 1 holds too") \
     X(ORDER_10_2, "refusal 10 where 2 holds too")
+
+/* What request P9 asks: the entry number of each task, the longer image, the
+ * start with an entry, and conversions. An entry shows in no line of a run, so
+ * all but the starts and the conversions is counted in cases alone; "image"
+ * without more is one that was taken. */
+#define STATE_PATHS(X, name, text) \
+    X(name##_ACTIVE, text "active") \
+    X(name##_READY, text "ready") \
+    X(name##_SEND, text "send-blocked") \
+    X(name##_RECEIVE, text "receive-blocked") \
+    X(name##_REPLY, text "reply-blocked") \
+    X(name##_EVENT, text "event-blocked") \
+    X(name##_EXITED, text "exited")
+
+/* Lengths that are of neither form. */
+#define WRONG_PATHS(X, name, text) \
+    X(name##_0, text "0 bytes") \
+    X(name##_639, text "639 bytes") \
+    X(name##_641, text "641 bytes") \
+    X(name##_767, text "767 bytes") \
+    X(name##_769, text "769 bytes")
+
+#define ENTRY_PATHS(X) \
+    X(ENTRY_ZERO, "image, Create with entry 0") \
+    X(ENTRY_ONE, "image, Create with entry 1") \
+    X(ENTRY_BYTE, "image, Create with entry 2 to 255") \
+    X(ENTRY_FAR, "image, Create with an entry past 255") \
+    X(ENTRY_NEGATIVE, "image, Create with an entry negative as a word") \
+    X(ENTRY_BYTES, "image, Create with an entry of four unlike bytes") \
+    X(ENTRY_LAST, "image, Create of the 32nd task with an entry") \
+    X(ENTRY_OTHER, "image, Create with an entry unlike its caller's") \
+    X(ENTRY_PRIORITY, "image, Create -1 with an entry") \
+    X(ENTRY_FULL, "image, Create -2 with an entry") \
+    STATE_PATHS(X, ENTRY_IS, "image, entry of a task that is ") \
+    STATE_PATHS(X, ENTRY_TO, "image, entry of a task that became ") \
+    X(ENTRY_NONE, "image without entries") \
+    X(ENTRY_FIRST, "image, entry of tid 1 alone") \
+    X(ENTRY_ALONE, "image, entry of one other task alone") \
+    X(ENTRY_ALL, "image, entries of 32 tasks") \
+    X(ENTRY_SAME, "image, two tasks of one entry") \
+    X(ENTRY_RESULT, "image, entry beside a value or a fault") \
+    X(ENTRY_LET_GO, "image, entry of a sender let go") \
+    X(ENTRY_REFUSED, "image with entries, step refused") \
+    X(UNUSED_20, "refusal 2, no task but its byte 20, all else good") \
+    X(UNUSED_21, "refusal 2, no task but its byte 21, all else good") \
+    X(UNUSED_22, "refusal 2, no task but its byte 22, all else good") \
+    X(UNUSED_23, "refusal 2, no task but its byte 23, all else good") \
+    X(UNUSED_FIRST, "refusal 2, entry alone, first slot not given out") \
+    X(UNUSED_LAST, "refusal 2, entry alone, slot 32") \
+    X(UNUSED_1, "refusal 1 where no task has an entry") \
+    X(UNUSED_3, "refusal 2, no task has an entry, where 3 holds too") \
+    X(UNUSED_4, "refusal 2, no task has an entry, where 4 holds too") \
+    X(UNUSED_8, "refusal 2, no task has an entry, where 8 holds too") \
+    X(UNUSED_9, "refusal 2, no task has an entry, where 9 holds too") \
+    WRONG_PATHS(X, IMAGE, "refusal 7 alone, ") \
+    X(IMAGE_OLD, "refusal 7 alone, 640 bytes") \
+    X(IMAGE_OLD_GOOD, "refusal 7 alone, a good image of the old form") \
+    X(IMAGE_OLD_1, "refusal 7, 640 bytes, where 1 holds too") \
+    X(IMAGE_OLD_5, "refusal 5 where the image has 640 bytes") \
+    X(IMAGE_OLD_10, "refusal 10 where the image has 640 bytes") \
+    X(START_ENTRY_ZERO, "start with entry 0") \
+    X(START_ENTRY, "start with an entry") \
+    X(START_ENTRY_BYTES, "start with an entry of four unlike bytes") \
+    X(START_ENTRY_NEGATIVE, "start with an entry negative as a word") \
+    X(START_6_ENTRY, "refusal 6 of a start with an entry") \
+    WRONG_PATHS(X, START_7, "refusal 7 of a start, ") \
+    X(START_7_OLD, "refusal 7 of a start, 640 bytes") \
+    X(START_6_OLD, "refusal 6 of a start, 640 bytes")
+
+/* Where a conversion goes: up is from the old form to the new one, down the
+ * way back, and the two others stay in their form; always in this order. */
+#define WAY_PATHS(X, name, text) \
+    X(name##_UP, text "up") \
+    X(name##_DOWN, text "down") \
+    X(name##_OLD_OLD, text "old to old") \
+    X(name##_NEW_NEW, text "new to new")
+
+#define MADE_PATHS(X, name, text) \
+    X(name, text) \
+    STATE_PATHS(X, name, text ", a task ") \
+    X(name##_ONE, text ", one task") \
+    X(name##_FULL, text ", 32 tasks") \
+    X(name##_IDLE, text ", nobody active") \
+    X(name##_CUT, text ", a cut value") \
+    X(name##_FAULT, text ", a fault") \
+    X(name##_BACK, text ", from what a conversion made, the same bytes")
+
+/* The entries of a good new image. */
+#define HAS_PATHS(X, name, text) \
+    STATE_PATHS(X, name, text ", one entry, its task ") \
+    X(name##_FIRST, text ", one entry, tid 1") \
+    X(name##_LAST, text ", one entry, tid 32") \
+    X(name##_SEVERAL, text ", several entries") \
+    X(name##_ALL, text ", entries of 32 tasks") \
+    X(name##_20, text ", byte 20 alone") \
+    X(name##_21, text ", byte 21 alone") \
+    X(name##_22, text ", byte 22 alone") \
+    X(name##_23, text ", byte 23 alone")
+
+/* Where 7 is given for the out buffer nothing says what of the image would be
+ * lost, so no 11 holds beside it. */
+#define CONVERT_PATHS(X) \
+    MADE_PATHS(X, UP, "convert up") \
+    MADE_PATHS(X, DOWN, "convert down") \
+    MADE_PATHS(X, OLD_OLD, "convert old to old") \
+    MADE_PATHS(X, NEW_NEW, "convert new to new") \
+    X(KEPT_NONE, "convert new to new, no entry") \
+    HAS_PATHS(X, KEPT, "convert new to new") \
+    WRONG_PATHS(X, OLD_TO, "convert: 7, 640 bytes to ") \
+    WRONG_PATHS(X, NEW_TO, "convert: 7, 768 bytes to ") \
+    WRONG_PATHS(X, TO_OLD, "convert: 7, to 640 bytes from ") \
+    WRONG_PATHS(X, TO_NEW, "convert: 7, to 768 bytes from ") \
+    X(CONVERT_NEITHER, "convert: 7, both lengths no image's") \
+    X(CONVERT_7_2_OLD, "convert: 7 where 2 holds too, an old image") \
+    X(CONVERT_7_2_NEW, "convert: 7 where 2 holds too, a new image") \
+    X(CONVERT_7_ENTRY, "convert: 7, a good new image with an entry") \
+    WAY_PATHS(X, CONVERT_2, "convert: 2, no task has an entry, ") \
+    X(CONVERT_2_11, "convert: 2 where 11 holds too") \
+    X(CONVERT_2_11_FIRST, "convert: 2 where 11 holds too, of tid 1") \
+    X(CONVERT_2_UNUSED, \
+      "convert: 2, down, an entry where no task is, alone") \
+    X(CONVERT_2_UNUSED_11, \
+      "convert: 2, down, such an entry, where 11 holds too") \
+    X(CONVERT_2_KEPT, "convert: 2, new to new, tasks with entries") \
+    X(CONVERT_2_KEPT_FIRST, "convert: 2, new to new, an entry of tid 1") \
+    X(CONVERT_2_SAME_UNUSED, \
+      "convert: 2, new to new, an entry where no task is, alone") \
+    X(CONVERT_2_UNUSED_KEPT, \
+      "convert: 2, new to new, such an entry beside a task's") \
+    HAS_PATHS(X, CONVERT_11, "convert: 11") \
+    X(CONVERT_CUT, "conversions ending in one cut short") \
+    X(CONVERT_LONG, "conversions ending in too long a chunk")
 
 #endif

@@ -6,32 +6,20 @@
 #include "images.h"
 #include "stored.h"
 
-#define COUNT(list) (sizeof(list) / sizeof(list)[0])
-
 /* ---- streams: a client, a server, and a third task that may reply ---- */
 
 enum { CLIENT = 1, SERVER = 2, THIRD = 3 };
 
-static struct table k;
-static uint8_t areas[AREAS_BYTES];
-
-static void step(int32_t kind, uint32_t a, uint32_t b, uint32_t c, uint32_t d,
-                 uint32_t e)
-{
-    struct request q = {kind, {(int32_t)a, (int32_t)b, (int32_t)c, (int32_t)d,
-                               (int32_t)e}};
-    table_step(&k, areas, &q);
-    put_request(&q);
-}
+static const struct table *const k = &followed;
 
 /* The others step aside, each waiting for the event of its own number. */
 static void let_run(uint32_t tid)
 {
-    while (k.active != tid) {
-        if (is(&k, tid, STATE_EVENT_BLOCKED))
+    while (k->active != tid) {
+        if (is(k, tid, STATE_EVENT_BLOCKED))
             step(KIND_EVENT, tid, 1, 0, 0, 0);
         else
-            step(KIND_AWAIT_EVENT, k.active, 0, 0, 0, 0);
+            step(KIND_AWAIT_EVENT, k->active, 0, 0, 0, 0);
     }
 }
 
@@ -43,13 +31,13 @@ static void go_on(uint32_t n)
         step(KIND_YIELD, 0, 0, 0, 0, 0);
         break;
     case 1:
-        step(KIND_CREATE, PRIORITIES, 0, 0, 0, 0);
+        step(KIND_CREATE, PRIORITIES, n, 0, 0, 0);
         break;
     case 2:
         step(KIND_EVENT, 63, 1, 0, 0, 0);
         break;
     case 3:
-        step(KIND_AWAIT_EVENT, k.active, 0, 0, 0, 0);
+        step(KIND_AWAIT_EVENT, k->active, 0, 0, 0, 0);
         break;
     case 4:
         step(KIND_MY_TID, 0, 0, 0, 0, 0);
@@ -58,7 +46,7 @@ static void go_on(uint32_t n)
         step(KIND_OWN_WRITE, n % AREA, 1, 0, 0, 0);
         break;
     default:
-        step(KIND_SEND, k.active, 0, 1, 0, 0);
+        step(KIND_SEND, k->active, 0, 1, 0, 0);
         break;
     }
 }
@@ -104,11 +92,10 @@ static void exchange(uint32_t n, bool queued)
 int cuts_run(uint32_t pattern)
 {
     static const uint32_t server[] = {8, 16, 24, 16}, third[] = {4, 16, 30, 24};
-    memset(areas, 0, sizeof areas);
-    table_start(&k, FIRST_PRIORITY);
-    step(KIND_CREATE, server[pattern % 4], 0, 0, 0, 0);
+    stream_start();
+    step(KIND_CREATE, server[pattern % 4], pattern, 0, 0, 0);
     let_run(CLIENT);
-    step(KIND_CREATE, third[pattern % 4], 0, 0, 0, 0);
+    step(KIND_CREATE, third[pattern % 4], entry_of(pattern), 0, 0, 0);
     for (uint32_t n = 0; n < PAIRS; n++) {
         exchange(n, n % 2);
         exchange(n, n % 2 == 0);
@@ -128,26 +115,15 @@ static void put(int32_t kind, int32_t a, int32_t b)
 /* Tasks that wait for a reply, the first of them active. */
 static void tasks(uint32_t n)
 {
-    memset(image, 0, sizeof image);
-    for (uint32_t i = 0; i < n; i++) {
-        slot(image, i)[AT_STATE] = STATE_REPLY_BLOCKED;
-        slot(image, i)[AT_PRIORITY] = FIRST_PRIORITY;
-        slot(image, i)[AT_PARENT] = i == 0 ? 0 : 1;
-    }
+    image_tasks(image, n);
     image[AT_STATE] = STATE_ACTIVE;
-}
-
-static void remake(uint32_t i, enum state state)
-{
-    memset(slot(image, i) + AT_PLACE, 0, SLOT_BYTES - AT_PLACE);
-    slot(image, i)[AT_STATE] = (uint8_t)state;
 }
 
 static void hold(uint32_t i, enum result_kind kind, int32_t number,
                  uint32_t from, uint32_t cut)
 {
     uint8_t *b = slot(image, i);
-    remake(i, STATE_READY);
+    remake(slot(image, i), STATE_READY);
     b[AT_RESULT] = (uint8_t)kind;
     put4(b + AT_NUMBER, number);
     b[AT_FROM] = (uint8_t)from;
@@ -186,9 +162,9 @@ static void every_state(void)
         for (unsigned i = 0; i < COUNT(cut); i++)
             for (uint32_t t = 1; t < TASKS; t += 15) {
                 tasks(state == STATE_UNUSED ? t : TASKS);
-                remake(t, (enum state)state);
+                remake(slot(image, t), (enum state)state);
                 if (state == STATE_ACTIVE)
-                    remake(0, STATE_REPLY_BLOCKED);
+                    remake(slot(image, 0), STATE_REPLY_BLOCKED);
                 if (state == STATE_RECEIVE_BLOCKED)
                     slot(image, t)[AT_WAITS_FOR] = 1;
                 slot(image, t)[AT_CUT] = cut[i];
@@ -231,10 +207,10 @@ static void refused_steps(void)
         put(KIND_OWN_WRITE, 0, -1);
         put(KIND_OWN_WRITE, 0, 65);
         put_case(image, AREAS_BYTES - 1, &(struct request){KIND_YIELD, {0}});
-        remake(0, STATE_EXITED);
+        remake(slot(image, 0), STATE_EXITED);
         put(KIND_YIELD, 0, 0);
-        remake(2, STATE_EXITED);
-        remake(3, STATE_EXITED);
+        remake(slot(image, 2), STATE_EXITED);
+        remake(slot(image, 3), STATE_EXITED);
         slot(image, 3)[AT_CUT] = (uint8_t)(cut - 1);
         put(KIND_YIELD, 0, 0);
         put(KIND_EVENT, 1, 1);
@@ -250,13 +226,13 @@ static void first_task(void)
         for (unsigned i = 0; i < COUNT(cut); i++) {
             tasks(4);
             hold(0, RESULT_VALUE, 6, i % 5, cut[i]);
-            remake(1, STATE_ACTIVE);
-            remake(3, STATE_EXITED);
+            remake(slot(image, 1), STATE_ACTIVE);
+            remake(slot(image, 3), STATE_EXITED);
             put(KIND_OWN_WRITE, 0, 1);
             put(KIND_YIELD, 0, 0);
             image[AT_FROM] = 4;
             put(KIND_YIELD, 0, 0);
-            remake(0, (enum state)state);
+            remake(slot(image, 0), (enum state)state);
             image[AT_WAITS_FOR] = state == STATE_RECEIVE_BLOCKED ? 2 : 0;
             image[AT_CUT] = cut[i];
             put(KIND_YIELD, 0, 0);
@@ -269,7 +245,7 @@ static void first_task(void)
 static void answer_lengths(void)
 {
     static const uint32_t far[] = {96, 120, 128, 255, 256, 256 + 20, 256 + 24,
-                                   512 + 24, 640, 6144, 8192, 8192 + 24,
+                                   512 + 24, 640, 768, 6144, 8192, 8192 + 24,
                                    16384 - 232, 16384};
     static const struct request q = {KIND_REPLY, {2, 0, 5}};
     uint32_t length[CHUNKS];
@@ -286,7 +262,7 @@ static void answer_lengths(void)
 static void answer_first(void)
 {
     static const uint32_t answer[] = {0, 19, 20, 21, 23, 24, 25, 28, 48};
-    static const uint32_t wrong[ANSWER_CHUNK] = {639, 8191, 20};
+    static const uint32_t wrong[ANSWER_CHUNK] = {IMAGE_BYTES - 1, 8191, 20};
     uint32_t length[CHUNKS];
     for (unsigned i = 0; i < COUNT(answer); i++) {
         for (unsigned which = 0; which < 16; which++) {
@@ -317,7 +293,7 @@ static void copy(int32_t kind, uint32_t other, struct lengths l,
     hold(ready, RESULT_VALUE, 5, 1, pattern % 2);
     slot(image, ready)[AT_PRIORITY] = better[(pattern + 3) % 5];
     b[AT_PRIORITY] = better[pattern % 5];
-    remake(other, kind == KIND_SEND ? STATE_SEND_BLOCKED
+    remake(slot(image, other), kind == KIND_SEND ? STATE_SEND_BLOCKED
                   : kind == KIND_RECEIVE ? STATE_RECEIVE_BLOCKED
                   : STATE_REPLY_BLOCKED);
     if (kind == KIND_RECEIVE) {

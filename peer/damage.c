@@ -31,13 +31,6 @@ static uint8_t *find(uint64_t *s, uint8_t *image, unsigned states)
     return any;
 }
 
-/* Keeps priority and parent, drops the rest. */
-static void remake(uint8_t *b, enum state state)
-{
-    memset(b + 3, 0, SLOT_BYTES - 3);
-    b[0] = (uint8_t)state;
-}
-
 static bool in_one_queue(const uint8_t *a, const uint8_t *b)
 {
     return a[0] == b[0] && ((a[0] == STATE_READY && a[1] == b[1]) ||
@@ -145,6 +138,23 @@ static void damage_cut(uint64_t *s, uint8_t *image)
     b[15] = i == 1 || i == 3 || i == 5 ? past_one(s) : 1;
 }
 
+/* An entry number: wrong only where there is no task; with i 0 or 1 nothing is
+ * wrong after it. */
+static void damage_entry(uint64_t *s, uint8_t *image)
+{
+    uint32_t n = used(image), i = below(s, 4), entry = some_entry(s);
+    uint8_t *b = find(s, image, ANY);
+    if (i >= 2 && n < TASKS)
+        b = slot(image, i == 2 ? n : n + below(s, TASKS - n));
+    if (!b)
+        return;
+    if (i == 0)
+        entry ^= get32(b + AT_ENTRY);
+    if (i == 3)                  /* one bit alone */
+        entry = 1u << below(s, 32);
+    put32(b + AT_ENTRY, entry);
+}
+
 static void damage_parent(uint64_t *s, uint8_t *image)
 {
     uint32_t n = used(image), i = below(s, 3);
@@ -217,7 +227,8 @@ static void damage_place(uint64_t *s, uint8_t *image)
 /* What only the whole table shows. */
 static void damage_whole(uint64_t *s, uint8_t *image)
 {
-    uint32_t n = used(image), i = below(s, 6), at = 1 + below(s, 19);
+    uint32_t n = used(image), i = below(s, 6);
+    uint32_t at = 1 + below(s, SLOT_BYTES - 1);
     uint8_t *b = find(s, image, i == 1 ? IS_ACTIVE : i == 2 ? IS_SENDING
                       : IS_WAITING | IS_REPLY | IS_EVENT | IS_EXITED);
     if (i == 0 && b) {
@@ -341,7 +352,7 @@ void image_damage(uint64_t *s, uint8_t *image)
 {
     static void (*const damage[])(uint64_t *, uint8_t *) = {
         damage_field, damage_field, damage_field, damage_result,
-        damage_result, damage_cut, damage_cut, damage_parent, damage_name,
-        damage_place, damage_whole, damage_target, damage_rough};
+        damage_result, damage_cut, damage_cut, damage_entry, damage_parent,
+        damage_name, damage_place, damage_whole, damage_target, damage_rough};
     damage[below(s, sizeof damage / sizeof damage[0])](s, image);
 }

@@ -1,6 +1,7 @@
 /* Says in words where two outputs part, once cmp has found that they do. */
 #include <stdint.h>
 #include <stdio.h>
+#include <stdlib.h>
 #include <string.h>
 
 #include "kernel.h"
@@ -8,10 +9,18 @@
 /* A clock gives at most 17 answers; one that is wrong may give more. */
 enum { LINE = 128, CHUNK = 16384, MOST = 64 };
 
-static const char *const chunk_name[] = {"image", "areas", "record",
-                                         "answer"};
+/* What a case gave: a verdict and four chunks; a conversion gives two of its
+ * own, a start only the image. */
+struct form {
+    int chunks;
+    const char *name[4];
+};
 
-/* What a case gave: a verdict and four chunks; of a start only the image. */
+static const struct form case_form = {4, {"image", "areas", "record",
+                                          "answer"}};
+static const struct form start_form = {1, {"image"}};
+static const struct form convert_form = {2, {"image", "out"}};
+
 struct outcome {
     bool whole;
     uint32_t verdict, length[4];
@@ -56,21 +65,22 @@ static bool get_word(FILE *f, uint32_t *n)
     return true;
 }
 
-static void get_outcome(FILE *f, struct outcome *o)
+static void get_outcome(FILE *f, const struct form *form, struct outcome *o)
 {
     memset(o, 0, sizeof *o);
     if (!get_word(f, &o->verdict))
         return;
-    for (int i = 0; i < 4; i++)
+    for (int i = 0; i < form->chunks; i++)
         if (!get_word(f, &o->length[i]) || o->length[i] > CHUNK ||
             fread(o->bytes[i], 1, o->length[i], f) != o->length[i])
             return;
     o->whole = true;
 }
 
-static void describe(const struct outcome *a, const struct outcome *b)
+static void describe(const struct form *form, const struct outcome *a,
+                     const struct outcome *b)
 {
-    if (a->length[2] == RECORD_BYTES) {
+    if (form == &case_form && a->length[2] == RECORD_BYTES) {
         struct request q = request_read(a->bytes[2]);
         printf("request %ld(%ld,%ld,%ld,%ld,%ld): ", (long)q.kind,
                (long)q.arg[0], (long)q.arg[1], (long)q.arg[2],
@@ -79,15 +89,15 @@ static void describe(const struct outcome *a, const struct outcome *b)
     if (a->verdict != b->verdict)
         printf("verdict: peer %lu, other %lu; ", (unsigned long)a->verdict,
                (unsigned long)b->verdict);
-    for (int i = 0; i < 4; i++) {
+    for (int i = 0; i < form->chunks; i++) {
         if (a->length[i] != b->length[i]) {
-            printf("length of %s: peer %lu, other %lu\n", chunk_name[i],
+            printf("length of %s: peer %lu, other %lu\n", form->name[i],
                    (unsigned long)a->length[i], (unsigned long)b->length[i]);
             return;
         }
         for (uint32_t j = 0; j < a->length[i]; j++) {
             if (a->bytes[i][j] != b->bytes[i][j]) {
-                printf("%s byte %lu: peer %d, other %d\n", chunk_name[i],
+                printf("%s byte %lu: peer %d, other %d\n", form->name[i],
                        (unsigned long)j, a->bytes[i][j], b->bytes[i][j]);
                 return;
             }
@@ -96,24 +106,29 @@ static void describe(const struct outcome *a, const struct outcome *b)
     printf("no other difference\n");
 }
 
-static void tell(const struct outcome *peer, const struct outcome *other)
+static void tell(const struct form *form, const struct outcome *peer,
+                 const struct outcome *other)
 {
     if (peer->whole && other->whole)
-        describe(peer, other);
+        describe(form, peer, other);
     else
         printf("%s\n", peer->whole ? "the other gave nothing whole"
                                    : "the peer gave nothing whole");
 }
 
-static int cases(FILE *a, FILE *b)
+static int outcomes(const char *what, const struct form *form, FILE *a,
+                    FILE *b)
 {
     static struct outcome peer, other;
     for (unsigned long number = 1;; number++) {
-        get_outcome(a, &peer);
-        get_outcome(b, &other);
+        get_outcome(a, form, &peer);
+        get_outcome(b, form, &other);
         if (memcmp(&peer, &other, sizeof peer) != 0) {
-            printf("case %lu: ", number);
-            tell(&peer, &other);
+            printf("%s %lu: ", what, number);
+            if (form == &convert_form)
+                printf("lengths %lu and %lu: ", (unsigned long)peer.length[0],
+                       (unsigned long)peer.length[1]);
+            tell(form, &peer, &other);
             return 1;
         }
         if (!peer.whole)
@@ -121,14 +136,14 @@ static int cases(FILE *a, FILE *b)
     }
 }
 
-/* How many whole cases there are, as input: four chunks each. */
-static int count(FILE *in)
+/* How many whole cases or conversions there are, as input. */
+static int count(const char *each, FILE *in)
 {
     unsigned long chunks = 0;
     uint32_t length;
     while (get_word(in, &length) && fseek(in, (long)length, SEEK_CUR) == 0)
         chunks++;
-    printf("%lu\n", chunks / 4);
+    printf("%lu\n", chunks / strtoul(each, NULL, 10));
     return 0;
 }
 
@@ -155,16 +170,18 @@ static int after_last(const char *what, FILE *a, FILE *b)
 static int starts(FILE *a, FILE *b, FILE *in)
 {
     static struct outcome peer, other;
-    uint32_t priority, length;
+    uint32_t priority, entry, length;
     for (unsigned long number = 1; get_word(in, &priority) &&
+                                   get_word(in, &entry) &&
                                    get_word(in, &length) && length <= CHUNK;
          number++) {
         get_started(a, length, &peer);
         get_started(b, length, &other);
         if (memcmp(&peer, &other, sizeof peer) != 0) {
-            printf("start %lu, priority %lu, length %lu: ", number,
-                   (unsigned long)priority, (unsigned long)length);
-            tell(&peer, &other);
+            printf("start %lu, priority %lu, entry %lu, length %lu: ",
+                   number, (unsigned long)priority, (unsigned long)entry,
+                   (unsigned long)length);
+            tell(&start_form, &peer, &other);
             return 1;
         }
     }
@@ -236,18 +253,20 @@ int main(int argc, char **argv)
     FILE *a = argc >= 3 ? fopen(argv[2], "rb") : NULL;
     FILE *b = argc >= 4 ? fopen(argv[3], "rb") : NULL;
     FILE *in = argc == 5 ? fopen(argv[4], "rb") : NULL;
-    if (argc == 3 && a && strcmp(argv[1], "count") == 0)
-        return count(a);
+    if (argc == 4 && b && strcmp(argv[1], "count") == 0)
+        return count(argv[2], b);
     if (argc == 4 && a && b && strcmp(argv[1], "lines") == 0)
         return lines(a, b);
     if (argc == 4 && a && b && strcmp(argv[1], "cases") == 0)
-        return cases(a, b);
+        return outcomes("case", &case_form, a, b);
+    if (argc == 4 && a && b && strcmp(argv[1], "converts") == 0)
+        return outcomes("conversion", &convert_form, a, b);
     if (a && b && in && strcmp(argv[1], "starts") == 0)
         return starts(a, b, in);
     if (a && b && in && strcmp(argv[1], "clocks") == 0)
         return clocks(a, b, in);
-    fputs("usage: differ lines|cases PEER OTHER\n"
+    fputs("usage: differ lines|cases|converts PEER OTHER\n"
           "       differ starts|clocks PEER OTHER INPUT\n"
-          "       differ count CASES\n", stderr);
+          "       differ count CHUNKS-OF-EACH INPUT\n", stderr);
     return 2;
 }

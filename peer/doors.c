@@ -2,23 +2,11 @@
  * and cases. */
 #include <string.h>
 
-#include "generate.h"
-
-#define COUNT(list) (sizeof(list) / sizeof(list)[0])
+#include "images.h"
 
 /* ---- streams: a crowd of 31 at one task, then of 30 at another ---- */
 
-static struct table k;
-static uint8_t areas[AREAS_BYTES];
-
-static void step(int32_t kind, uint32_t a, uint32_t b, uint32_t c, uint32_t d,
-                 uint32_t e)
-{
-    struct request q = {kind, {(int32_t)a, (int32_t)b, (int32_t)c, (int32_t)d,
-                               (int32_t)e}};
-    table_step(&k, areas, &q);
-    put_request(&q);
-}
+static const struct table *const k = &followed;
 
 static uint32_t priority_of(uint32_t pattern, uint32_t tid)
 {
@@ -40,14 +28,14 @@ static uint32_t priority_of(uint32_t pattern, uint32_t tid)
 
 static bool exists(uint32_t tid)
 {
-    return k.task[tid].state != STATE_UNUSED &&
-           k.task[tid].state != STATE_EXITED;
+    return k->task[tid].state != STATE_UNUSED &&
+           k->task[tid].state != STATE_EXITED;
 }
 
 static uint32_t living(void)
 {
     uint32_t count = 0;
-    for (uint32_t tid = 1; tid <= k.used; tid++)
+    for (uint32_t tid = 1; tid <= k->used; tid++)
         count += exists(tid);
     return count;
 }
@@ -57,10 +45,10 @@ static uint32_t living(void)
 static uint32_t next_door(bool highest)
 {
     uint32_t door = 0;
-    for (uint32_t tid = 1; tid <= k.used; tid++)
+    for (uint32_t tid = 1; tid <= k->used; tid++)
         if (exists(tid) &&
-            (door == 0 || k.task[tid].priority > k.task[door].priority ||
-             (highest && k.task[tid].priority == k.task[door].priority)))
+            (door == 0 || k->task[tid].priority > k->task[door].priority ||
+             (highest && k->task[tid].priority == k->task[door].priority)))
             door = tid;
     return door;
 }
@@ -68,8 +56,8 @@ static uint32_t next_door(bool highest)
 /* Those the last door had received stayed, and somebody else replies. */
 static void reply_to_all(void)
 {
-    for (uint32_t tid = 1; tid <= k.used; tid++)
-        if (k.task[tid].state == STATE_REPLY_BLOCKED)
+    for (uint32_t tid = 1; tid <= k->used; tid++)
+        if (k->task[tid].state == STATE_REPLY_BLOCKED)
             step(KIND_REPLY, tid, tid, 4, 0, 0);
 }
 
@@ -78,8 +66,8 @@ static void gather(uint32_t door, uint32_t last)
 {
     bool tried[TASKS + 1] = {false};
     uint32_t others = living() - 1;
-    while (k.active != door || k.task[door].senders.length < others) {
-        uint32_t tid = k.active;
+    while (k->active != door || k->task[door].senders.length < others) {
+        uint32_t tid = k->active;
         if (tid == door)
             step(KIND_YIELD, 0, 0, 0, 0, 0);
         else if (last != 0 && !tried[tid] && tid % 2)
@@ -93,10 +81,10 @@ static void gather(uint32_t door, uint32_t last)
 int doors_run(uint32_t pattern)
 {
     uint32_t last = 0;
-    memset(areas, 0, sizeof areas);
-    table_start(&k, FIRST_PRIORITY);
-    while (k.used < TASKS)
-        step(KIND_CREATE, priority_of(pattern, k.used + 1), 0, 0, 0, 0);
+    stream_start();
+    while (k->used < TASKS)
+        step(KIND_CREATE, priority_of(pattern, k->used + 1),
+             listed_entry(k->used), 0, 0, 0);
     for (uint32_t round = 0; living() > 1; round++) {
         uint32_t door = next_door(round / 2 % 2);
         reply_to_all();
@@ -122,32 +110,10 @@ int doors_run(uint32_t pattern)
 
 static uint8_t image[IMAGE_BYTES];
 
-static uint8_t *slot(uint32_t i)
-{
-    return image + i * SLOT_BYTES;
-}
-
-/* 32 tasks that wait for a reply. */
-static void replies_wanted(void)
-{
-    memset(image, 0, sizeof image);
-    for (uint32_t i = 0; i < TASKS; i++) {
-        slot(i)[0] = STATE_REPLY_BLOCKED;
-        slot(i)[1] = FIRST_PRIORITY;
-        slot(i)[2] = i == 0 ? 0 : 1;
-    }
-}
-
-static void remake(uint32_t i, enum state state)
-{
-    memset(slot(i) + 3, 0, SLOT_BYTES - 3);
-    slot(i)[0] = (uint8_t)state;
-}
-
 static void queue_up(uint32_t i, uint32_t target, uint32_t place)
 {
-    uint8_t *b = slot(i);
-    remake(i, STATE_RECEIVE_BLOCKED);
+    uint8_t *b = slot(image, i);
+    remake(slot(image, i), STATE_RECEIVE_BLOCKED);
     b[3] = (uint8_t)place;
     b[4] = (uint8_t)(target + 1);
     b[6] = (uint8_t)(i + 1);     /* offset and length of the message */
@@ -163,15 +129,15 @@ static void pair(uint32_t i, uint32_t target, enum state state, bool idle)
     uint32_t other = 0;
     while (other == i || other == target)
         other++;
-    replies_wanted();
+    image_tasks(image, TASKS);
     queue_up(i, target, 0);
-    remake(target, state);
+    remake(slot(image, target), state);
     if (state == STATE_RECEIVE_BLOCKED)
         queue_up(target, i, 0);
     if (state == STATE_EVENT_BLOCKED)
-        slot(target)[4] = (uint8_t)(i + target);
+        slot(image, target)[4] = (uint8_t)(i + target);
     if (state != STATE_ACTIVE && (state == STATE_READY || !idle))
-        remake(other, STATE_ACTIVE);
+        remake(slot(image, other), STATE_ACTIVE);
 }
 
 /* The refusal by 2 comes before any of those that a request may earn. */
@@ -220,16 +186,16 @@ static void no_targets(void)
             if (target != 0 && target != n && target != n + 1 &&
                 target != TASKS)
                 continue;
-            replies_wanted();
-            memset(slot(n), 0, (TASKS - n) * SLOT_BYTES);
-            remake(0, STATE_ACTIVE);
+            image_tasks(image, TASKS);
+            memset(slot(image, n), 0, (TASKS - n) * SLOT_BYTES);
+            remake(slot(image, 0), STATE_ACTIVE);
             queue_up(n - 1, 0, 0);
-            slot(n - 1)[4] = (uint8_t)target;
+            slot(image, n - 1)[4] = (uint8_t)target;
             put_case(image, AREAS_BYTES, &q);
         }
     }
     for (unsigned i = 0; i < COUNT(past); i++) {
-        slot(TASKS - 1)[4] = past[i];
+        slot(image, TASKS - 1)[4] = past[i];
         put_case(image, AREAS_BYTES, &q);
     }
 }
@@ -256,16 +222,17 @@ static void crowd(uint32_t door, uint32_t senders, uint32_t order,
 {
     static const struct request q = {KIND_EXIT, {1, 2, 3, 4, 5}};
     uint8_t ready[PRIORITIES] = {0};
-    replies_wanted();
-    remake(door, STATE_ACTIVE);
+    image_tasks(image, TASKS);
+    remake(slot(image, door), STATE_ACTIVE);
     for (uint32_t nth = 0; nth < TASKS - 1; nth++) {
         uint32_t i = (door + 1 + nth) % TASKS;
-        slot(i)[1] = (uint8_t)(spread == 0 ? FIRST_PRIORITY : i % spread);
+        slot(image, i)[1] = (uint8_t)(spread == 0 ? FIRST_PRIORITY
+                                      : i % spread);
         if (nth < senders) {
             queue_up(i, door, place_of(nth, senders, order));
         } else if (nth % 3 == 0) {
-            remake(i, STATE_READY);
-            slot(i)[3] = ready[slot(i)[1]]++;
+            remake(slot(image, i), STATE_READY);
+            slot(image, i)[3] = ready[slot(image, i)[1]]++;
         } else if (nth % 3 == 1) {
             queue_up(i, (door + 1) % TASKS, (nth - senders) / 3);
         }

@@ -1,6 +1,6 @@
-/* Writes request streams, byte-entry cases, starts and histories of clocks to
- * standard output. */
-#include "generate.h"
+/* Writes request streams, byte-entry cases, starts, histories of clocks and
+ * conversions to standard output. */
+#include "images.h"
 
 #include <stdio.h>
 #include <stdlib.h>
@@ -25,7 +25,7 @@ void put_request(const struct request *q)
 
 static int requests(uint64_t seed, unsigned long steps)
 {
-    world_start(&world, seed, FIRST_PRIORITY);
+    world_start(&world, seed, FIRST_PRIORITY, 0);
     for (unsigned long i = 0; i < steps; i++) {
         struct request q = world_live(&world);
         table_step(&world.table, world.areas, &q);
@@ -34,17 +34,32 @@ static int requests(uint64_t seed, unsigned long steps)
     return 0;
 }
 
-/* ---- cases ---- */
+/* ---- streams that are worked out ---- */
 
-struct chunk {
-    uint32_t length;
-    uint8_t bytes[16384];
-};
+struct table followed;
+static uint8_t followed_areas[AREAS_BYTES];
+
+void stream_start(void)
+{
+    memset(followed_areas, 0, sizeof followed_areas);
+    table_start(&followed, FIRST_PRIORITY, 0);
+}
+
+void step(int32_t kind, uint32_t a, uint32_t b, uint32_t c, uint32_t d,
+          uint32_t e)
+{
+    struct request q = {kind, {(int32_t)a, (int32_t)b, (int32_t)c, (int32_t)d,
+                               (int32_t)e}};
+    table_step(&followed, followed_areas, &q);
+    put_request(&q);
+}
+
+/* ---- cases ---- */
 
 const uint32_t right_lengths[CHUNKS] = {IMAGE_BYTES, AREAS_BYTES,
                                         RECORD_BYTES, ANSWER_BYTES};
 
-static void put_chunk(const struct chunk *c)
+void put_chunk(const struct chunk *c)
 {
     uint8_t b[4] = {(uint8_t)c->length, (uint8_t)(c->length >> 8),
                     (uint8_t)(c->length >> 16), (uint8_t)(c->length >> 24)};
@@ -52,7 +67,7 @@ static void put_chunk(const struct chunk *c)
     fwrite(c->bytes, 1, c->length, stdout);
 }
 
-static void garbage(uint64_t *s, uint8_t *to, uint32_t length)
+void garbage(uint64_t *s, uint8_t *to, uint32_t length)
 {
     for (uint32_t i = 0; i < length; i += 8) {
         uint64_t r = draw(s);
@@ -62,15 +77,17 @@ static void garbage(uint64_t *s, uint8_t *to, uint32_t length)
 }
 
 /* An image from the middle of a run, or one no run need lead to. */
-static void base_image(struct world *run, uint64_t *s, uint8_t *image)
+void base_image(struct world *run, uint64_t *s, uint8_t *image)
 {
     uint32_t priority = below(s, PRIORITIES);
     if (chance(s, 50)) {
         image_invent(s, image);
         return;
     }
-    if (world_dead(&run->table) || chance(s, 1))
-        world_start(run, draw(s), priority);
+    if (world_dead(&run->table) || chance(s, 1)) {
+        uint64_t seed = draw(s);
+        world_start(run, seed, priority, some_entry(s));
+    }
     for (uint32_t i = 1 + below(s, 6); i > 0; i--) {
         struct request q = world_live(run);
         table_step(&run->table, run->areas, &q);
@@ -78,41 +95,49 @@ static void base_image(struct world *run, uint64_t *s, uint8_t *image)
     table_write(&run->table, image);
 }
 
+static void wrong_length(uint64_t *s, struct chunk *c, uint32_t right)
+{
+    switch (below(s, 9)) {
+    case 0:
+        c->length = 0;
+        break;
+    case 1:
+        c->length = right - 1;
+        break;
+    case 2:
+        c->length = right + 1;
+        break;
+    case 3:
+        c->length = 2 * right;
+        break;
+    case 4:                      /* a word short, as answers once were */
+        c->length = right - 4;
+        break;
+    case 5:
+        c->length = right + 4;
+        break;
+    case 6:                      /* alike in the low byte, or in ten bits */
+        c->length = right + (chance(s, 70) ? 256 : 1024);
+        break;
+    case 7:                      /* the old form of an image, or nearly */
+        c->length = OLD_IMAGE_BYTES + (chance(s, 80) ? 0 : 2 * below(s, 2) - 1);
+        if (right == IMAGE_BYTES)
+            image_narrow(c->bytes);
+        break;
+    default:
+        c->length = right_lengths[below(s, CHUNKS)];
+        break;
+    }
+}
+
 static void wrong_lengths(uint64_t *s, struct chunk *c)
 {
     uint32_t which = 1 + below(s, 15);
     if (chance(s, 60))           /* mostly one alone */
         which = 1u << below(s, 4);
-    for (int i = 0; i < CHUNKS; i++) {
-        if (!(which >> i & 1))
-            continue;
-        switch (below(s, 8)) {
-        case 0:
-            c[i].length = 0;
-            break;
-        case 1:
-            c[i].length = right_lengths[i] - 1;
-            break;
-        case 2:
-            c[i].length = right_lengths[i] + 1;
-            break;
-        case 3:
-            c[i].length = 2 * right_lengths[i];
-            break;
-        case 4:                  /* a word short, as answers once were */
-            c[i].length = right_lengths[i] - 4;
-            break;
-        case 5:
-            c[i].length = right_lengths[i] + 4;
-            break;
-        case 6:                  /* alike in the low byte */
-            c[i].length = right_lengths[i] + 256;
-            break;
-        default:
-            c[i].length = right_lengths[below(s, CHUNKS)];
-            break;
-        }
-    }
+    for (int i = 0; i < CHUNKS; i++)
+        if (which >> i & 1)
+            wrong_length(s, &c[i], right_lengths[i]);
 }
 
 static void one_case(struct world *run, uint64_t *s)
@@ -172,8 +197,8 @@ void put_case(const uint8_t *image, uint32_t areas, const struct request *q)
 static int cases(uint64_t seed, unsigned long count)
 {
     static struct world run;
-    uint64_t s = seed;
-    world_start(&run, draw(&s), FIRST_PRIORITY);
+    uint64_t s = seed, first = draw(&s);
+    world_start(&run, first, FIRST_PRIORITY, some_entry(&s));
     for (unsigned long i = 0; i < count; i++)
         one_case(&run, &s);
     return 0;
@@ -197,15 +222,22 @@ static const struct {
     int (*make)(void);
 } fixed[] = {
     {"first-run", first_run}, {"fixed-cases", doors_cases},
-    {"cut-cases", cuts_cases}, {"fixed-starts", starts_fixed},
-    {"fixed-clocks", clocks_fixed}};
+    {"cut-cases", cuts_cases}, {"entry-cases", entries_cases},
+    {"fixed-starts", starts_fixed}, {"fixed-clocks", clocks_fixed},
+    {"fixed-converts", converts_fixed}};
 
 static const struct {
     const char *name;
     int (*make)(uint32_t pattern);
-} patterns[] = {{"fixed-run", doors_run}, {"cut-run", cuts_run}};
+} patterns[] = {{"fixed-run", doors_run}, {"cut-run", cuts_run},
+              {"entry-run", entries_run}};
 
-#define COUNT(list) (sizeof(list) / sizeof(list)[0])
+static const struct {
+    const char *name;
+    int (*make)(uint64_t seed, unsigned long count);
+} seeded[] = {
+    {"requests", requests}, {"cases", cases}, {"starts", starts_drawn},
+    {"clock", clocks_drawn}, {"converts", converts_drawn}};
 
 static int usage(void)
 {
@@ -213,14 +245,18 @@ static int usage(void)
           "       generate cases SEED COUNT [INDEX]\n"
           "       generate starts SEED COUNT [INDEX]\n"
           "       generate clock SEED MESSAGES [INDEX]\n"
+          "       generate converts SEED COUNT [INDEX]\n"
           "       generate first-run\n"
           "       generate fixed-run PATTERN\n"
           "       generate fixed-cases\n"
           "       generate cut-run PATTERN\n"
           "       generate cut-cases\n"
+          "       generate entry-run PATTERN\n"
+          "       generate entry-cases\n"
           "       generate fixed-starts\n"
           "       generate fixed-clocks\n"
-          "       generate one-start PRIORITY LENGTH\n", stderr);
+          "       generate fixed-converts\n"
+          "       generate one-start PRIORITY ENTRY LENGTH\n", stderr);
     return 2;
 }
 
@@ -232,21 +268,17 @@ int main(int argc, char **argv)
     for (unsigned i = 0; argc == 3 && i < COUNT(patterns); i++)
         if (strcmp(argv[1], patterns[i].name) == 0)
             return patterns[i].make((uint32_t)strtoul(argv[2], NULL, 10));
-    if (argc == 4 && strcmp(argv[1], "one-start") == 0)
+    if (argc == 5 && strcmp(argv[1], "one-start") == 0)
         return starts_one((uint32_t)strtoul(argv[2], NULL, 10),
-                          (uint32_t)strtoul(argv[3], NULL, 10));
+                          (uint32_t)strtoul(argv[3], NULL, 10),
+                          (uint32_t)strtoul(argv[4], NULL, 10));
     if (argc == 4 || argc == 5) {
         uint64_t seed = strtoull(argv[2], NULL, 10);
         unsigned long count = strtoul(argv[3], NULL, 10);
         seed = mix(seed, argc == 5 ? strtoull(argv[4], NULL, 10) : 0);
-        if (strcmp(argv[1], "requests") == 0)
-            return requests(seed, count);
-        if (strcmp(argv[1], "cases") == 0)
-            return cases(seed, count);
-        if (strcmp(argv[1], "starts") == 0)
-            return starts_drawn(seed, count);
-        if (strcmp(argv[1], "clock") == 0)
-            return clocks_drawn(seed, count);
+        for (unsigned i = 0; i < COUNT(seeded); i++)
+            if (strcmp(argv[1], seeded[i].name) == 0)
+                return seeded[i].make(seed, count);
     }
     return usage();
 }

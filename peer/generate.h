@@ -1,11 +1,14 @@
-/* Seeded requests, byte-entry cases, starts and histories of clocks. */
+/* Seeded requests, byte-entry cases, starts, histories of clocks and
+ * conversions of images. */
 #ifndef PEER_GENERATE_H
 #define PEER_GENERATE_H
 
 #include "clock.h"
 #include "kernel.h"
 
-enum { STATES = STATE_EXITED + 1 };
+enum { STATES = STATE_EXITED + 1, LONGEST = 16384 };
+
+#define COUNT(list) (sizeof(list) / sizeof(list)[0])
 
 /* splitmix64: small, and the same everywhere; so no expression may hold two
  * draws whose order C leaves open. */
@@ -51,11 +54,26 @@ struct world {
     uint32_t least;          /* tasks that doors are to leave */
 };
 
-void world_start(struct world *w, uint64_t seed, uint32_t priority);
+void world_start(struct world *w, uint64_t seed, uint32_t priority,
+                 uint32_t entry);
 void world_habits(struct world *w);
 bool world_dead(const struct table *k);
 struct request world_choose(struct world *w);  /* any request */
 struct request world_live(struct world *w);    /* one that keeps it going */
+
+/* The kernel of a stream of the job run, which is followed while its requests
+ * go to standard output. */
+extern struct table followed;
+void stream_start(void);
+void step(int32_t kind, uint32_t a, uint32_t b, uint32_t c, uint32_t d,
+          uint32_t e);
+
+/* Entry numbers: any; one of a fixed list, by its number; and one whose bytes
+ * all differ from each other, not 0, for each slot another. */
+uint32_t some_entry(uint64_t *seed);
+uint32_t listed_entry(uint32_t n);
+uint32_t entry_of(uint32_t slot);
+enum { ENTRIES = 16 };
 
 /* An offset and a length at arg: any, a bad one, and one for a copy from or
  * into the other buffer, NULL if it is not known. */
@@ -67,9 +85,17 @@ void room_facing(struct world *w, int32_t *arg, const struct buffer *other);
 enum { IMAGE_CHUNK, AREAS_CHUNK, RECORD_CHUNK, ANSWER_CHUNK, CHUNKS };
 extern const uint32_t right_lengths[CHUNKS];
 
-/* To standard output: a record; a case with chunks of these lengths; one that
- * is whole but for the length of the areas. */
+struct chunk {
+    uint32_t length;
+    uint8_t bytes[LONGEST];
+};
+
+void garbage(uint64_t *s, uint8_t *to, uint32_t length);
+
+/* To standard output: a record; a chunk; a case with chunks of these lengths;
+ * one that is whole but for the length of the areas. */
 void put_request(const struct request *q);
+void put_chunk(const struct chunk *c);
 void put_lengths(const uint8_t *image, const uint32_t *length,
                  const struct request *q);
 void put_case(const uint8_t *image, uint32_t areas, const struct request *q);
@@ -84,12 +110,22 @@ int doors_cases(void);
 int cuts_run(uint32_t pattern);
 int cuts_cases(void);
 
-/* Images for cases: a good one made up whole, and one thing spoiled. */
+/* A fixed list about entry numbers: a stream, and cases. */
+int entries_run(uint32_t pattern);
+int entries_cases(void);
+
+/* Conversions, to standard output: a fixed list, drawn ones. */
+int converts_fixed(void);
+int converts_drawn(uint64_t seed, unsigned long count);
+
+/* Images for cases: a good one from a run or made up, one made up whole, and
+ * one thing spoiled. */
+void base_image(struct world *run, uint64_t *s, uint8_t *image);
 void image_invent(uint64_t *seed, uint8_t *image);
 void image_damage(uint64_t *seed, uint8_t *image);
 
 /* Records of starts, to standard output: any one, a fixed list, drawn ones. */
-int starts_one(uint32_t priority, uint32_t length);
+int starts_one(uint32_t priority, uint32_t entry, uint32_t length);
 int starts_fixed(void);
 int starts_drawn(uint64_t seed, unsigned long count);
 

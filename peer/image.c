@@ -85,6 +85,7 @@ static bool task_read(struct task *t, uint32_t tid, const uint8_t *slot,
     t->priority = slot[AT_PRIORITY];
     t->parent = slot[AT_PARENT];
     t->waits_for = slot[AT_WAITS_FOR];
+    t->entry = get32(slot + AT_ENTRY); /* any number, in every state */
     MARK_RECORD(t->state);
     MARK_ASK(RULE_PRIORITY);
     return t->priority < PRIORITIES
@@ -244,6 +245,7 @@ static void task_write(const struct task *t, uint8_t *slot)
     slot[AT_FROM] = (uint8_t)t->result.from;
     slot[AT_CUT] = t->result.cut;
     put32(slot + AT_NUMBER, (uint32_t)t->result.number);
+    put32(slot + AT_ENTRY, t->entry);
 }
 
 static void places_write(const struct table *k, const struct queue *q,
@@ -313,10 +315,12 @@ uint32_t peer_step(uint8_t *image, uint64_t image_len,
         return REFUSED_ANSWER;
     if (record_len != RECORD_BYTES) {
         MARK(REFUSAL_5);
+        MARK_IF(image_len == OLD_IMAGE_BYTES, IMAGE_OLD_5);
         MARK_IF(image_len != IMAGE_BYTES, ORDER_5_7);
         a.verdict = REFUSED_RECORD;
     } else if (image_len != IMAGE_BYTES) {
         MARK(REFUSAL_7);
+        MARK_IMAGE(image, image_len, areas_len);
         MARK_IF(areas_len != AREAS_BYTES, ORDER_7_1);
         a.verdict = REFUSED_IMAGE;
     } else if (areas_len != AREAS_BYTES) {
@@ -324,6 +328,7 @@ uint32_t peer_step(uint8_t *image, uint64_t image_len,
         MARK_IF(!table_read(&k, image), ORDER_1_2);
         MARK_IF(!table_read(&k, image) && COVER_CLOSED, CLOSED_1);
         MARK_IF(!table_read(&k, image) && COVER_CUT, CUT_BAD_1);
+        MARK_IF(cover_entry_only(image), UNUSED_1);
         a.verdict = REFUSED_AREAS;
     } else if (!table_read(&k, image)) {
         MARK(REFUSAL_2);
@@ -331,6 +336,7 @@ uint32_t peer_step(uint8_t *image, uint64_t image_len,
         MARK_CLOSED(request_read(record));
         MARK_CUT_BAD(image, request_read(record));
         MARK_IF(get32(record) - 1 >= KIND_OWN_WRITE, ORDER_2_3);
+        MARK_ENTRY_BAD(image, request_read(record));
         a.verdict = REFUSED_TABLE;
     } else {
         struct request q = request_read(record);
@@ -338,6 +344,7 @@ uint32_t peer_step(uint8_t *image, uint64_t image_len,
         MARK_TAKEN(&k);
         a = table_step(&k, areas, &q);
         MARK_CUT_LEFT(&k, a.verdict);
+        MARK_ENTRY_LEFT(&k, q, a.verdict);
         if (a.verdict == 0)
             table_write(&k, image);
     }
@@ -345,11 +352,13 @@ uint32_t peer_step(uint8_t *image, uint64_t image_len,
     return a.verdict;
 }
 
-uint32_t peer_start(uint32_t priority, uint8_t *image, uint64_t image_len)
+uint32_t peer_start(uint32_t priority, uint32_t entry,
+                    uint8_t *image, uint64_t image_len)
 {
     struct table k;
-    uint32_t refusal = table_start(&k, priority);
+    uint32_t refusal = table_start(&k, priority, entry);
 
+    MARK_STARTED(refusal, entry, image_len);
     MARK_IF(refusal != 0 && image_len != IMAGE_BYTES, START_6_7);
     if (refusal != 0)
         return refusal;

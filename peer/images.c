@@ -3,6 +3,61 @@
 
 #include "images.h"
 
+void image_tasks(uint8_t *image, uint32_t n)
+{
+    memset(image, 0, IMAGE_BYTES);
+    for (uint32_t i = 0; i < n; i++) {
+        uint8_t *b = slot(image, i);
+        b[AT_STATE] = STATE_REPLY_BLOCKED;
+        b[AT_PRIORITY] = FIRST_PRIORITY;
+        b[AT_PARENT] = i == 0 ? 0 : 1;
+        put32(b + AT_ENTRY, entry_of(i));
+    }
+}
+
+void image_mixed(uint8_t *image)
+{
+    static const uint8_t state[] = {
+        STATE_SEND_BLOCKED, STATE_READY, STATE_ACTIVE, STATE_RECEIVE_BLOCKED,
+        STATE_EVENT_BLOCKED, STATE_EXITED, STATE_READY, STATE_READY,
+        STATE_REPLY_BLOCKED, STATE_RECEIVE_BLOCKED};
+    image_tasks(image, MIXED);
+    for (uint32_t i = 0; i < MIXED; i++) {
+        uint8_t *b = slot(image, i);
+        bool late = i >= COUNT(state);
+        remake(b, state[i % COUNT(state)]);
+        b[AT_PRIORITY] = (uint8_t)(i % 10);
+        if (b[AT_STATE] == STATE_ACTIVE && late)
+            b[AT_STATE] = STATE_EXITED;
+        b[AT_PLACE] = uses_place(b[AT_STATE]) && late;
+        b[AT_WAITS_FOR] = b[AT_STATE] == STATE_EVENT_BLOCKED ? (uint8_t)i
+                          : b[AT_STATE] == STATE_RECEIVE_BLOCKED
+                          ? i % 10 == 3 ? 2 : 9 : 0;
+        if (uses_message(b[AT_STATE]))
+            put32(b + AT_MESSAGE, (i + 1) << 16 | (0xA0 + i));
+        if (uses_reply(b[AT_STATE]))
+            put32(b + AT_REPLY, 256u << 16);
+        if (i % 10 == 6)         /* cut or whole, and its number */
+            put32(b + AT_FROM, (late ? 0x106 : 3) | 0x1F4u << 16);
+        if (i % 10 == 7)
+            put32(b + AT_NUMBER, late ? UINT32_MAX : UINT32_MAX - 2);
+        b[AT_RESULT] = i % 10 == 6 ? RESULT_VALUE
+                       : i % 10 == 7 ? RESULT_FAULT : RESULT_NOTHING;
+    }
+}
+
+void image_clear(uint8_t *image)
+{
+    for (uint32_t i = 0; i < TASKS; i++)
+        put32(slot(image, i) + AT_ENTRY, 0);
+}
+
+void image_narrow(uint8_t *image)
+{
+    for (uint32_t i = 1; i < TASKS; i++)
+        memmove(image + i * OLD_SLOT_BYTES, slot(image, i), OLD_SLOT_BYTES);
+}
+
 static void put_result(uint64_t *s, uint8_t *b, uint32_t n)
 {
     b[5] = (uint8_t)below(s, 3);
@@ -103,6 +158,17 @@ static uint8_t some_state(uint64_t *s, uint32_t i, const struct crowd *c,
     return state;
 }
 
+/* Every task has one, most have one, one has one, or none. */
+static void put_entries(uint64_t *s, uint8_t *image, uint32_t n)
+{
+    uint32_t style = below(s, 5), only = below(s, n);
+    for (uint32_t i = 0; i < n; i++) {
+        uint32_t entry = some_entry(s);
+        if (style == 0 ? false : style == 1 ? i == only : true)
+            put32(slot(image, i) + AT_ENTRY, entry);
+    }
+}
+
 void image_invent(uint64_t *s, uint8_t *image)
 {
     uint8_t events[EVENTS] = {0};
@@ -125,4 +191,5 @@ void image_invent(uint64_t *s, uint8_t *image)
     for (uint32_t i = 0; i < n; i++)
         put_fields(s, image, n, i, &crowd, events);
     put_places(s, image, n);
+    put_entries(s, image, n);
 }

@@ -114,6 +114,7 @@ static void create(struct table *k, const struct request *q)
 
         k->task[tid].priority = (uint32_t)priority;
         k->task[tid].parent = k->active;
+        k->task[tid].entry = (uint32_t)q->arg[1];
         make_ready(k, tid, nothing);
         MARK(k->used == TASKS ? CREATE_LAST : CREATE_OK);
         caller->result = value(tid);
@@ -352,7 +353,7 @@ static uint32_t refusal_of(const struct table *k, const struct request *q)
     return 0;
 }
 
-uint32_t table_start(struct table *k, uint32_t priority)
+uint32_t table_start(struct table *k, uint32_t priority, uint32_t entry)
 {
     *k = (struct table){ 0 };
     MARK_FORGET();
@@ -363,6 +364,7 @@ uint32_t table_start(struct table *k, uint32_t priority)
     k->active = 1;
     k->task[1].state = STATE_ACTIVE;
     k->task[1].priority = priority;
+    k->task[1].entry = entry;
     return 0;
 }
 

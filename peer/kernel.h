@@ -11,8 +11,10 @@ enum {
     EVENTS = 64,
     AREA = 256,
     AREAS_BYTES = TASKS * AREA,
-    SLOT_BYTES = 20,
+    SLOT_BYTES = 24,
     IMAGE_BYTES = TASKS * SLOT_BYTES,
+    OLD_SLOT_BYTES = 20, /* a stored task of before the entry numbers */
+    OLD_IMAGE_BYTES = TASKS * OLD_SLOT_BYTES,
     RECORD_BYTES = 24,
     ANSWER_BYTES = 24,
     FIRST_PRIORITY = 16
@@ -60,7 +62,8 @@ enum refusal {
     REFUSED_IMAGE = 7,
     REFUSED_EVENT = 8,
     REFUSED_WRITE = 9,
-    REFUSED_ANSWER = 10
+    REFUSED_ANSWER = 10,
+    REFUSED_ENTRY = 11
 };
 
 struct request {
@@ -93,6 +96,7 @@ struct queue {
 struct task {
     enum state state;
     uint32_t priority, parent;
+    uint32_t entry;        /* tells the host its code; here only kept */
     uint32_t next;         /* who stands behind this task in its one queue */
     uint32_t waits_for;    /* the target of a Send, or an event */
     struct buffer message; /* also the buffer of a waiting Receive */
@@ -113,7 +117,7 @@ struct table {
 /* kernel.c */
 
 /* A fresh kernel. Returns 0, or 6 with the all-unused table. */
-uint32_t table_start(struct table *k, uint32_t priority);
+uint32_t table_start(struct table *k, uint32_t priority, uint32_t entry);
 
 /* One step of a good table over AREAS_BYTES of areas. */
 struct answer table_step(struct table *k, uint8_t *areas,
@@ -144,6 +148,15 @@ uint32_t peer_step(uint8_t *image, uint64_t image_len,
 
 /* Writes the image of a fresh kernel; refused by 6, then by 7, without a byte
    written. */
-uint32_t peer_start(uint32_t priority, uint8_t *image, uint64_t image_len);
+uint32_t peer_start(uint32_t priority, uint32_t entry,
+                    uint8_t *image, uint64_t image_len);
+
+/* convert.c */
+
+/* Writes the image into out; which form each of them has is told by its own
+   length, and both may have the same. Refused by 7, then 2, then 11, without a
+   byte written. */
+uint32_t peer_convert(const uint8_t *image, uint64_t image_len,
+                      uint8_t *out, uint64_t out_len);
 
 #endif

@@ -1,7 +1,8 @@
-/* The four jobs: "run", the program of document 01's first run; "cases",
+/* The five jobs: "run", the program of document 01's first run; "cases",
    which shows what the byte entry does with bytes of any kind; "start", which
-   shows what a start does with images of any length; and "clock", which shows
-   what a clock answers to the messages that reach it. */
+   shows what a start does with images of any length; "clock", which shows what
+   a clock answers to the messages that reach it; and "convert", which shows
+   how images of any kind go into either form. */
 #include "clock.h"
 #include "kernel.h"
 
@@ -15,7 +16,7 @@ enum {
     STREAM_BLOCK = 65536,
     CHUNK_MAX = 16384,
     LENGTH_BYTES = 4,
-    START_BYTES = 8,
+    START_BYTES = 12,
     IMAGE_FILL = 0xA5 /* no byte of a fresh image, so what is written shows */
 };
 
@@ -59,7 +60,7 @@ static int run(void)
     uint64_t step = 0;
     size_t got;
 
-    table_start(&k, FIRST_PRIORITY);
+    table_start(&k, FIRST_PRIORITY, 0);
     do {
         got = fread(block, 1, sizeof block, stdin);
         for (size_t i = 0; i < got / RECORD_BYTES; i++) {
@@ -173,8 +174,8 @@ static int cases(void)
 }
 
 /* As chunk_read, for the record of a start. */
-static const char *start_read(uint32_t *priority, uint32_t *length,
-                              bool *at_end)
+static const char *start_read(uint32_t *priority, uint32_t *entry,
+                              uint32_t *length, bool *at_end)
 {
     uint8_t record[START_BYTES];
     size_t got = fread(record, 1, sizeof record, stdin);
@@ -183,7 +184,8 @@ static const char *start_read(uint32_t *priority, uint32_t *length,
     if (got != sizeof record)
         return "the last start is cut short";
     *priority = number_read(record);
-    *length = number_read(record + 4);
+    *entry = number_read(record + 4);
+    *length = number_read(record + 8);
     if (*length > CHUNK_MAX)
         return "an image is longer than 16384 bytes";
     return NULL;
@@ -192,19 +194,39 @@ static const char *start_read(uint32_t *priority, uint32_t *length,
 static int start(void)
 {
     uint8_t image[CHUNK_MAX];
-    uint32_t priority, length;
+    uint32_t priority, entry, length;
     const char *wrong;
     bool over;
 
     setvbuf(stdin, NULL, _IOFBF, STREAM_BLOCK);
-    while ((wrong = start_read(&priority, &length, &over)) == NULL) {
+    while ((wrong = start_read(&priority, &entry, &length, &over)) == NULL) {
         memset(image, IMAGE_FILL, length);
-        number_print(peer_start(priority, image, length));
+        number_print(peer_start(priority, entry, image, length));
         fwrite(image, 1, length, stdout);
     }
     if (over)
         return finish();
     MARK(strstr(wrong, "cut") != NULL ? START_CUT : START_LONG);
+    return stop(wrong);
+}
+
+static int convert(void)
+{
+    struct chunk image, out;
+    const char *wrong;
+    bool over, at_end;
+
+    setvbuf(stdin, NULL, _IOFBF, STREAM_BLOCK);
+    while ((wrong = chunk_read(&image, &over)) == NULL
+           && (wrong = chunk_read(&out, &at_end)) == NULL) {
+        number_print(peer_convert(image.bytes, image.length,
+                                  out.bytes, out.length));
+        chunk_print(&image);
+        chunk_print(&out);
+    }
+    if (over)
+        return finish();
+    MARK(strstr(wrong, "cut") != NULL ? CONVERT_CUT : CONVERT_LONG);
     return stop(wrong);
 }
 
@@ -264,6 +286,8 @@ int main(int argc, char **argv)
         return start();
     if (argc == 2 && strcmp(argv[1], "clock") == 0)
         return clock_messages();
-    fprintf(stderr, "usage: peer run|cases|start|clock\n");
+    if (argc == 2 && strcmp(argv[1], "convert") == 0)
+        return convert();
+    fprintf(stderr, "usage: peer run|cases|start|clock|convert\n");
     return 2;
 }

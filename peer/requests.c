@@ -29,11 +29,12 @@ void world_habits(struct world *w)
     w->mortal = chance(s, 10);
 }
 
-void world_start(struct world *w, uint64_t seed, uint32_t priority)
+void world_start(struct world *w, uint64_t seed, uint32_t priority,
+                 uint32_t entry)
 {
     memset(w, 0, sizeof *w);
     w->seed = seed;
-    table_start(&w->table, priority);
+    table_start(&w->table, priority, entry);
     world_habits(w);
 }
 
@@ -199,6 +200,7 @@ static void fill(struct world *w, struct request *q)
     case KIND_CREATE:
         q->arg[0] = chance(s, 4) ? PICK(s, -1, 32, 0, 31, 255, INT32_MIN)
                                  : new_priority(w);
+        q->arg[1] = (int32_t)some_entry(s);
         break;
     case KIND_SEND:
         q->arg[0] = send_target(w);

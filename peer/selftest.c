@@ -44,7 +44,7 @@ static void expect_step(int32_t kind, int32_t a, int32_t b,
 static void fresh(void)
 {
     memset(areas, 0, sizeof areas);
-    expect(table_start(&k, FIRST_PRIORITY) == 0, "start");
+    expect(table_start(&k, FIRST_PRIORITY, 0) == 0, "start");
 }
 
 static const struct answer idle = {0, 0, {RESULT_NOTHING, 0, 0, false}};
@@ -79,7 +79,7 @@ static void first_run(void)
 {
     uint8_t image[IMAGE_BYTES], record[RECORD_BYTES], answer[ANSWER_BYTES];
     memset(areas, 0, sizeof areas);
-    expect(peer_start(FIRST_PRIORITY, image, sizeof image) == 0, "start");
+    expect(peer_start(FIRST_PRIORITY, 0, image, sizeof image) == 0, "start");
     for (int i = 0; i < 11; i++) {
         request_write(&first_steps[i], record);
         memset(answer, 0xAA, sizeof answer);
@@ -346,17 +346,17 @@ static void starting(void)
 {
     uint8_t image[IMAGE_BYTES + 1], fresh_image[IMAGE_BYTES] = {1, 31};
     memset(image, 0xAA, sizeof image);
-    expect(peer_start(16, image, IMAGE_BYTES + 1) == 7, "start, 641 bytes");
-    expect(peer_start(16, image, IMAGE_BYTES - 1) == 7, "start, 639 bytes");
-    expect(peer_start(32, image, IMAGE_BYTES - 1) == 6, "start, 6 before 7");
-    expect(peer_start(32, image, IMAGE_BYTES) == 6, "start at 32");
-    expect(peer_start(UINT32_MAX, image, IMAGE_BYTES) == 6, "start at -1");
-    expect(table_start(&k, 32) == 6, "table at 32");
+    expect(peer_start(16, 0, image, IMAGE_BYTES + 1) == 7, "start, 769 bytes");
+    expect(peer_start(16, 0, image, IMAGE_BYTES - 1) == 7, "start, 767 bytes");
+    expect(peer_start(32, 0, image, IMAGE_BYTES - 1) == 6, "start, 6 before 7");
+    expect(peer_start(32, 0, image, IMAGE_BYTES) == 6, "start at 32");
+    expect(peer_start(UINT32_MAX, 0, image, IMAGE_BYTES) == 6, "start at -1");
+    expect(table_start(&k, 32, 0) == 6, "table at 32");
     table_write(&k, image);
     for (int i = 0; i <= IMAGE_BYTES; i++)
         expect(image[i] == 0xAA, "start refused, nothing written");
     expect_step(KIND_MY_TID, 0, 0, refused(2, 0), "step of no task");
-    expect(peer_start(31, image, IMAGE_BYTES) == 0, "start at 31");
+    expect(peer_start(31, 0, image, IMAGE_BYTES) == 0, "start at 31");
     expect(memcmp(image, fresh_image, IMAGE_BYTES) == 0, "start at 31, image");
     expect(image[IMAGE_BYTES] == 0xAA, "start, past the image");
     memset(image, 0, IMAGE_BYTES);
@@ -369,6 +369,8 @@ static void count_starting(void)
     static const enum cover_path only_here[] = {STEP_UNUSED, WRITE_UNUSED};
     unsigned long before[PATHS];
     memset(cover_paths, 0, sizeof cover_paths);
+    memset(cover_rules, 0, sizeof cover_rules);
+    memset(cover_ways, 0, sizeof cover_ways);
     cover_load();
     memcpy(before, cover_paths, sizeof before);
     starting();
@@ -390,6 +392,7 @@ int main(void)
     crowd_goes();
     targets();
     cut_cases();
+    entry_cases();
     clock_cases();
     count_starting();
     return 0;

@@ -8,6 +8,7 @@
 void expect(bool holds, const char *what);
 
 void cut_cases(void);
+void entry_cases(void);
 void clock_cases(void);
 
 #endif

@@ -18,7 +18,7 @@ struct line {
 static void start(void)
 {
     memset(areas, 0, sizeof areas);
-    expect(peer_start(FIRST_PRIORITY, image, sizeof image) == 0, "start");
+    expect(peer_start(FIRST_PRIORITY, 0, image, sizeof image) == 0, "start");
 }
 
 static void step(const struct line *l, const char *what)
@@ -85,10 +85,13 @@ static void kept(void)
         {{4, {0}}, {0, 3, 1, 0, 0, 0}},
         {{4, {0}}, {0, 1, 1, 0, 0, 0}}};
     static const uint8_t receiver[SLOT_BYTES] = {
-        2, 16, 0, 0, 0, 1, 0, 0, 0, 0, 0, 0, 0, 0, 2, 1, 3, 0, 0, 0};
+        2, 16, 0, 0, 0, 1, 0, 0, 0, 0, 0, 0, 0, 0, 2, 1, 3, 0, 0, 0,
+        0, 0, 0, 0};
     static const uint8_t ends[2 * SLOT_BYTES] = {
         2, 16, 1, 0, 0, 1, 0, 0, 0, 0, 0, 0, 0, 0, 0, 1, 2, 0, 0, 0,
-        2, 16, 1, 1, 0, 1, 0, 0, 0, 0, 0, 0, 0, 0, 0, 1, 1, 0, 0, 0};
+        0, 0, 0, 0,
+        2, 16, 1, 1, 0, 1, 0, 0, 0, 0, 0, 0, 0, 0, 0, 1, 1, 0, 0, 0,
+        0, 0, 0, 0};
     start();
     for (unsigned i = 0; i < COUNT(lines); i++) {
         step(&lines[i], "cut values that wait");

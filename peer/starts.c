@@ -1,25 +1,22 @@
-/* Starts: each a priority and the length of the image to start into. */
+/* Starts: each a priority, the first task's entry number and the length of the
+ * image to start into. */
 #include <stdio.h>
 
 #include "generate.h"
+#include "stored.h"
 
-enum { LONGEST = 16384 };
-
-#define COUNT(list) (sizeof(list) / sizeof(list)[0])
-
-static void put_start(uint32_t priority, uint32_t length)
+static void put_start(uint32_t priority, uint32_t entry, uint32_t length)
 {
-    uint8_t b[8];
-    for (int i = 0; i < 4; i++) {
-        b[i] = (uint8_t)(priority >> 8 * i);
-        b[4 + i] = (uint8_t)(length >> 8 * i);
-    }
+    uint8_t b[12];
+    put32(b, priority);
+    put32(b + 4, entry);
+    put32(b + 8, length);
     fwrite(b, 1, sizeof b, stdout);
 }
 
-int starts_one(uint32_t priority, uint32_t length)
+int starts_one(uint32_t priority, uint32_t entry, uint32_t length)
 {
-    put_start(priority, length);
+    put_start(priority, entry, length);
     return 0;
 }
 
@@ -31,20 +28,32 @@ static const uint32_t far_priority[] = {
     UINT32_MAX};
 
 /* Good and bad take turns, so that an image left over from the start before
- * shows. Of the lengths 128, 896 and 8832 share low bits with 640. */
+ * shows. Of the lengths 256, 1024 and 8960 share low bits with 768, and 128,
+ * 896 and 8832 with 640, which was right before there were entries. An entry
+ * may be what would be a bad priority, or a length. */
 int starts_fixed(void)
 {
     static const uint32_t priority[] = {0, 32, 16, 256 + 16, 31, UINT32_MAX,
                                         7, 1u << 31};
-    static const uint32_t length[] = {0, 1, 20, 128, 639, 640, 641, 896, 1280,
-                                      8192, 8832, LONGEST - 1, LONGEST};
+    static const uint32_t length[] = {
+        0, 1, 20, 24, 128, 256, 639, 640, 641, 644, 764, 767, 768, 769, 772,
+        896, 1024, 1280, 1536, 8192, 8832, 8960, LONGEST - 1, LONGEST};
     for (uint32_t p = 0; p <= 40; p++)
-        put_start(p, IMAGE_BYTES);
+        put_start(p, listed_entry(p), IMAGE_BYTES);
     for (unsigned i = 0; i < COUNT(far_priority); i++)
-        put_start(far_priority[i], IMAGE_BYTES);
+        put_start(far_priority[i], listed_entry(i), IMAGE_BYTES);
     for (unsigned i = 0; i < COUNT(length); i++)
         for (unsigned j = 0; j < COUNT(priority); j++)
-            put_start(priority[j], length[i]);
+            put_start(priority[j], listed_entry(i + j), length[i]);
+    for (uint32_t i = 0; i < ENTRIES; i++)
+        for (unsigned j = 0; j < 4; j++)
+            put_start(priority[j], listed_entry(i), IMAGE_BYTES);
+    for (uint32_t bit = 0; bit < 32; bit++)
+        put_start(bit, 1u << bit, IMAGE_BYTES);
+    for (unsigned i = 0; i < COUNT(length); i++)
+        put_start(16, 0, length[i]);
+    put_start(16, IMAGE_BYTES, IMAGE_BYTES);
+    put_start(16, IMAGE_BYTES, OLD_IMAGE_BYTES);
     return 0;
 }
 
@@ -65,9 +74,13 @@ static uint32_t some_priority(uint64_t *s)
 
 static uint32_t some_length(uint64_t *s)
 {
-    switch (below(s, 8)) {
+    switch (below(s, 10)) {
     case 0:
         return IMAGE_BYTES - 4 + below(s, 9);
+    case 4:
+        return OLD_IMAGE_BYTES - 4 + below(s, 9);
+    case 5:
+        return OLD_IMAGE_BYTES;
     case 1:                      /* one bit wrong */
         return IMAGE_BYTES ^ 1u << below(s, 14);
     case 2:
@@ -83,8 +96,8 @@ int starts_drawn(uint64_t seed, unsigned long count)
 {
     uint64_t s = seed;
     for (unsigned long i = 0; i < count; i++) {
-        uint32_t priority = some_priority(&s);
-        put_start(priority, some_length(&s));
+        uint32_t priority = some_priority(&s), entry = some_entry(&s);
+        put_start(priority, entry, some_length(&s));
     }
     return 0;
 }

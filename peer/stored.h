@@ -19,7 +19,8 @@ enum {
     AT_REPLY = 10,
     AT_FROM = 14,
     AT_CUT = 15,
-    AT_NUMBER = 16
+    AT_NUMBER = 16,
+    AT_ENTRY = 20 /* last, so that the old form is the rest */
 };
 
 static inline uint32_t get16(const uint8_t *b)

@@ -1,9 +1,10 @@
 /* Draws a run: a row for each step, a column for each task. A row has room for all that its step says, in columns as wide as the
  * longest text of the run, so that nothing need be left out. A long run is drawn in blocks, one below the other, each with its heads. */
+#include <inttypes.h>
 #include <string.h>
 #include "timeline.h"
 
-enum { MARGIN = 12, CHAR = 7, SIZE = 11, ROW = 20, BAR = 16, PER_BLOCK = 50, HEAD = 38, BETWEEN = 26, GUTTER = 28 };
+enum { MARGIN = 12, CHAR = 7, SIZE = 11, ROW = 20, BAR = 16, PER_BLOCK = 50, HEAD = 53, BETWEEN = 26, GUTTER = 28 };
 
 #define MIDDLE " text-anchor=\"middle\""
 #define END " text-anchor=\"end\""
@@ -30,7 +31,7 @@ static void say_asked(char *text, size_t room, const struct step *s)
     int known = w[0] >= CREATE && w[0] <= OWN_WRITE;
     char more[128] = "", refused[24] = "";
     switch (w[0]) {
-    case CREATE: snprintf(more, sizeof more, " priority %d", w[1]); break;
+    case CREATE: snprintf(more, sizeof more, " priority %d, entry %" PRIu32, w[1], (uint32_t)w[2]); break;
     case SEND: snprintf(more, sizeof more, " to %d: %d %s at %d, room for %d at %d", w[1], w[3], bytes(w[3]), w[2], w[5], w[4]); break;
     case RECEIVE: snprintf(more, sizeof more, ": room for %d at %d", w[2], w[1]); break;
     case REPLY: snprintf(more, sizeof more, " to %d: %d %s at %d", w[1], w[3], bytes(w[3]), w[2]); break;
@@ -105,11 +106,14 @@ static void heads(const struct run *r, int last)
     label(at.told, y, SIZE, BOLD, "is told");
     label(at.lanes, y, SIZE, BOLD END, "task");
     label(at.lanes, y + 15, SIZE, FILL(GREY) END, "priority");
+    label(at.lanes, y + 30, SIZE, FILL(GREY) END, "entry");
     for (int t = 1; t <= end->used; t++) {
         snprintf(text, sizeof text, "%d", t);
         label(x_of(t), y, SIZE, BOLD MIDDLE, text);
         snprintf(text, sizeof text, "%d", end->priority[t]);
         label(x_of(t), y + 15, SIZE, FILL(GREY) MIDDLE, text);
+        snprintf(text, sizeof text, "%" PRIu32, end->entry[t]);
+        label(x_of(t), y + 30, SIZE, FILL(GREY) MIDDLE, text);
     }
     put("<path stroke=\"#d8d8d8\" d=\"");
     for (int i = base; i <= last; i++)
@@ -195,6 +199,10 @@ static void measure(const struct run *r)
         told = wider(told, text);
     }
     lane = lanes <= 6 ? 64 : 44; /* between two bars a count of three digits fits beside the head of an arrow */
+    for (int t = 1; t <= lanes; t++) {
+        snprintf(text, sizeof text, " %" PRIu32, r->steps[r->count].entry[t]);
+        lane = wider(lane, text);
+    }
     at.number = MARGIN + 4 * CHAR;
     at.caller = at.number + 14;
     at.asked = at.caller + 8 * CHAR + 12;

@@ -10,6 +10,7 @@ static const char *const lines[] = {
     "what that task is told then: - nothing, v 6 the value 6, v 6 from 1 the same from task 1, e -1 the fault -1;",
     "cut: fewer bytes were delivered than were sent, for want of room;",
     "and the state of each task after the step. Whatever the number of steps, nothing is left out.",
+    "A column is a task: its number, its priority, and its entry number, by which the host finds the code that it runs.",
 };
 
 enum { LINES = sizeof lines / sizeof lines[0] };

@@ -3,10 +3,10 @@
 #include <string.h>
 #include "timeline.h"
 
-enum { LAST_STATE = EXITED, LAST_PRIORITY = 31, LAST_REFUSAL = 10, LAST_FAULT = 3, LONGEST = 512 };
+enum { LAST_STATE = EXITED, LAST_PRIORITY = 31, LAST_REFUSAL = 10, LAST_FAULT = 3, LONGEST = 1024 };
 
 /* A number as the program writes it: no plus, and no zero in front. */
-static int number(const char **at, int32_t least, int32_t most, int *to)
+static int long_number(const char **at, int64_t least, int64_t most, int64_t *to)
 {
     const char *s = *at;
     int minus = *s == '-';
@@ -16,14 +16,23 @@ static int number(const char **at, int32_t least, int32_t most, int *to)
         return 0;
     for (; *s >= '0' && *s <= '9'; s++) {
         n = 10 * n + (*s - '0');
-        if (n > INT64_C(1) << 31)
+        if (n > UINT32_MAX)
             return 0;
     }
     n = minus ? -n : n;
     if (n < least || n > most)
         return 0;
-    *to = (int)n;
+    *to = n;
     *at = s;
+    return 1;
+}
+
+static int number(const char **at, int32_t least, int32_t most, int *to)
+{
+    int64_t n;
+    if (!long_number(at, least, most, &n))
+        return 0;
+    *to = (int)n;
     return 1;
 }
 
@@ -63,11 +72,14 @@ static int tasks(const char **at, struct step *s)
 {
     do {
         int state, priority;
-        if (s->used == TASKS || !number(at, ACTIVE, LAST_STATE, &state) || !word(at, "/") || !number(at, 0, LAST_PRIORITY, &priority))
+        int64_t entry;
+        if (s->used == TASKS || !number(at, ACTIVE, LAST_STATE, &state) || !word(at, "/") || !number(at, 0, LAST_PRIORITY, &priority)
+            || !word(at, "/") || !long_number(at, 0, UINT32_MAX, &entry))
             return 0;
         s->used++;
         s->state[s->used] = (unsigned char)state;
         s->priority[s->used] = (unsigned char)priority;
+        s->entry[s->used] = (uint32_t)entry;
     } while (word(at, " "));
     return 1;
 }
@@ -105,8 +117,8 @@ static int parties(struct step *s, const struct step *before)
 static const char *odd(struct step *s, const struct step *before)
 {
     for (int t = 1; t <= before->used; t++)
-        if (t > s->used || s->priority[t] != before->priority[t])
-            return "a task of the line before is gone, or its priority is another";
+        if (t > s->used || s->priority[t] != before->priority[t] || s->entry[t] != before->entry[t])
+            return "a task of the line before is gone, or its priority or its entry number is another";
     for (int t = 1; t <= TASKS; t++)
         if ((s->state[t] == ACTIVE) != (t == s->next))
             return "the task that runs next is not the one that is active";

@@ -24,6 +24,7 @@ struct step {
     int giver, taker; /* of a delivery */
     int used;
     unsigned char state[TASKS + 1], priority[TASKS + 1];
+    uint32_t entry[TASKS + 1]; /* a task's entry number: the host finds the task's code by it */
 };
 
 struct run {
@@ -39,7 +40,7 @@ int read_run(struct run *r, FILE *requests, FILE *lines);
 void draw(FILE *out, const struct run *r);
 
 /* key.c: what the marks mean, from the top of the picture to KEY_HIGH; it takes KEY_WIDE at least. */
-enum { KEY_WIDE = 716, KEY_HIGH = 192 };
+enum { KEY_WIDE = 716, KEY_HIGH = 208 };
 void key(void);
 
 /* svg.c: the marks. */

@@ -8,7 +8,7 @@ use mathlib.Core.List.{List}
 use native.Mathlib.Numerals.{add-two}
 use native.Mathlib.Omega.{arith}
 use lib.Dec.{eqb, ltb, leb}
-use borrow.Author.Tests.{eqb-true, eq-eqb, ne-eqb, ltb-true, le-leb}
+use borrow.Author.Tests.{eqb-true, eq-eqb, ne-eqb, ltb-true, lt-ltb, le-leb}
 use Rattle.queue.specs.Choose.{choose}
 use Rattle.queue.specs.Numbering.{readyQueue, eventQueue, sendQueue, queuesFor}
 use Rattle.queue.proofs.Below.{both-true, true-both, by-test, same-test}
@@ -17,7 +17,7 @@ use Rattle.tid.specs.Tid.{slotNamed}
 use Rattle.task.specs.declared.task.Buffer.{Buffer}
 use Rattle.task.specs.declared.task.Result.{Result}
 use Rattle.task.specs.declared.task.State.{State}
-use Rattle.task.specs.Task.{firstNegative, noTask, goodBuffer, isReady}
+use Rattle.task.specs.Task.{firstNegative, noTask, isWord, goodBuffer, isReady}
 use Rattle.task.specs.Result.{negated}
 use Rattle.task.specs.Standing.{queueOf}
 use Rattle.task.proofs.Tests.{chosen, clash}
@@ -25,7 +25,7 @@ use Rattle.rules.specs.Good.{goodResult, isNothing, goodParent, goodState, good
 use Rattle.image.specs.declared.fields.ResultParts.{ResultParts}
 use Rattle.image.specs.Bytes.{numberIn, recordAt}
 use Rattle.image.specs.ResultParts.{resultPartsOf}
-use Rattle.image.specs.Record.{recordLength, atState, atPriority, atParent, atPlace, atAwaited, atMessage, atReply, atWord, byteIn, bufferIn, partsOf, partsIn, resultPartsIn, stateFrom, resultOf, usedFrom, taskFrom}
+use Rattle.image.specs.Record.{recordLength, atState, atPriority, atParent, atPlace, atAwaited, atMessage, atReply, atWord, atEntry, byteIn, bufferIn, partsOf, partsIn, resultPartsIn, stateFrom, resultOf, usedFrom, taskFrom}
 use Rattle.image.specs.Exact.{sameParts, sameResultParts, exactPlace, exactRecord}
 use Rattle.image.proofs.Bytes.{byte-in}
 use Rattle.image.proofs.Made.{tests, eqb-same, cut-exact}
@@ -47,8 +47,9 @@ unplaced-order e x i p g = simp sorted
 receiver-order : (x i t m r : Bool) → (x && i && (t && m && r)) ≡ (x && true && (m && r && t && true && i))
 receiver-order x i t m r = simp (and-true, sorted)
 
-record-order : (p z e x k g i : Bool) → (p && z && (e && x && k && (g && i))) ≡ (e && x && k && (p && z && g && i))
-record-order p z e x k g i = simp sorted
+-- n tells whether the entry number fits its word: it always does
+record-order : (p z e x k g i : Bool) {n : Bool} → n ≡ true → (p && z && (e && x && k && (g && i))) ≡ (e && x && k && (p && z && g && i && n))
+record-order p z e x k g i fits = rw fits (simp (and-true, sorted))
 
 -- two tests that fail
 skipped : (a b n z : Bool) {two four : Bool} → two ≡ false → four ≡ false → choose two a (n && choose four b z) ≡ (n && z)
@@ -164,7 +165,7 @@ module _ (code awaited : ℕ) (message reply : Buffer) where
         skipped (eqb awaited 0 && (m && r) && t) sending n (eqb place 0 && unplacedHeld code awaited message reply m r) n₂ n₄
         ∙ rw (en, unplaced-sound n₂ n₄, not-ready n₂, placed) (unplaced-order exact x i (eqb place 0) (goodState used s st))))
 
--- so what the fields are asked is what the record and its task are asked beside the priority and the parent
+-- so what the fields are asked is what the record and its task are asked beside the priority, the parent and the entry number
 module _ (used s : ℕ) (r : List ℕ) (small : Bytes r) (none : eqb (byteIn r atState) 0 ≡ false) where
   fields-sound : let o = resultPartsIn r in
       let st = stateFrom (partsIn r) in
@@ -188,18 +189,19 @@ sound-record used s r small some =
     let none = ne-eqb (byteIn r atState) 0 some in
     let o = resultPartsIn r in
     let st = stateFrom (partsIn r) in
+    let entry : isWord (numberIn r atEntry 4) ≡ true = lt-ltb (numberIn r atEntry 4) (2 ^ 32) (number-small 4 atEntry r small) in
     rw (none, fields-sound used s r small none)
     (record-order (ltb (byteIn r atPriority) priorities) (goodParent s (byteIn r atParent))
     (sameParts (partsOf st) (partsIn r)) (sameResultParts (resultPartsOf (resultOf o)) o) (exactPlace (byteIn r atState) (byteIn r atPlace))
-    (goodState used s st) (choose (isReady st) (goodResult used (resultOf o)) (isNothing (resultOf o))))
+    (goodState used s st) (choose (isReady st) (goodResult used (resultOf o)) (isNothing (resultOf o))) entry)
 
 -- the queue that a task stands in, by the code of its state
-queue-told : (none code priority parent awaited : ℕ) (message reply : Buffer) (result : Result)
+queue-told : (none code priority parent awaited entry : ℕ) (message reply : Buffer) (result : Result)
     → choose (eqb code 2) (readyQueue priority)
     (choose (eqb code 4) (sendQueue (slotNamed awaited)) (choose (eqb code 6) (eventQueue awaited) none))
-    ≡ queueOf none (choose (eqb code 0) noTask (record { state = stateOf code awaited message reply; priority = priority; parent = parent; result = result }))
+    ≡ queueOf none (choose (eqb code 0) noTask (record { state = stateOf code awaited message reply; priority = priority; parent = parent; entry = entry; result = result }))
 unfolding queueOf
-queue-told none code priority parent awaited message reply result =
+queue-told none code priority parent awaited entry message reply result =
     by-test (eqb code 1) (λ e. rw (eqb-true code 1 e))
     (λ n₁. by-test (eqb code 2) (λ e. rw (eqb-true code 2 e))
     (λ n₂. by-test (eqb code 3) (λ e. rw (eqb-true code 3 e))
@@ -216,4 +218,4 @@ unfolding queueIn taskFrom usedFrom
 queue-read n b s =
     let r = recordAt recordLength b s in
     rw (← byte-in b s atState (omega arith), ← byte-in b s atPriority (omega arith), ← byte-in b s atAwaited (omega arith))
-    (queue-told (queuesFor n) (byteIn r atState) (byteIn r atPriority) (byteIn r atParent) (byteIn r atAwaited) (bufferIn r atMessage) (bufferIn r atReply) (resultOf (resultPartsIn r)))
+    (queue-told (queuesFor n) (byteIn r atState) (byteIn r atPriority) (byteIn r atParent) (byteIn r atAwaited) (numberIn r atEntry 4) (bufferIn r atMessage) (bufferIn r atReply) (resultOf (resultPartsIn r)))

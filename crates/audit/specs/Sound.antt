@@ -63,6 +63,7 @@ fieldsSound used s r =
     && choose (eqb code 4) (targetSound used s awaited && fitsArea r atMessage && fitsArea r atReply)
     (eqb (byteIn r atPlace) 0 && unplacedSound r))
 
+-- a record of which all this is so; its entry number may be any
 unfoldable pub recordSound : ℕ → ℕ → List ℕ → Bool
 recordSound used s r =
     ltb (byteIn r atPriority) priorities && goodParent s (byteIn r atParent) && fieldsSound used s r

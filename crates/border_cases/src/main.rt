@@ -11,7 +11,13 @@ fn main() {
     let mut areas = [0u8; SLOTS * AREA];
     let mut out = [0u8; 8192];
     let n = io::read_full(STDIN_FILENO, &mut records);
-    let block = show_block(fresh_block(16), &records[..n], &mut areas, &mut out, false);
+    let block = show_block(
+        fresh_block(16, 0),
+        &records[..n],
+        &mut areas,
+        &mut out,
+        false,
+    );
     let end = block.end;
     io::write_all(STDOUT_FILENO, &out[..end]);
 }

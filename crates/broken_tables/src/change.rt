@@ -50,25 +50,23 @@ fn state_of(n: [u32; NUMBERS]) -> State {
 }
 
 // A task with one part put in.
-fn changed_task(old: Task, what: u8, n: [u32; NUMBERS]) -> Task {
+fn changed_task(mut old: Task, what: u8, n: [u32; NUMBERS]) -> Task {
     let second = narrow(n[1]);
     let state = old.state;
     let result = old.result;
-    let parent = old.parent;
-    let priority = old.priority;
     match what {
-        b'P' => Task {
-            state,
-            priority: second,
-            parent,
-            result,
-        },
-        b'A' => Task {
-            state,
-            priority,
-            parent: second,
-            result,
-        },
+        b'P' => {
+            old.priority = second;
+            old
+        }
+        b'A' => {
+            old.parent = second;
+            old
+        }
+        b'G' => {
+            old.entry = n[1];
+            old
+        }
         b'V' => old.becomes(
             state,
             Result::Value {

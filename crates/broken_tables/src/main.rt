@@ -14,14 +14,16 @@ use crate::text::line_end;
 use crate::text::numbers;
 use libc::STDIN_FILENO;
 
-// The first task's priority.
+// The first task's priority and its entry number.
 const FIRST: u32 = 16;
+
+const FIRST_ENTRY: u32 = 0;
 
 // A line that begins with - or + ends a case, whose table is to be refused or accepted; one with = makes the table the one that each
 // case starts from; any other changes the table.
 fn run(text: &[u8]) -> Tally {
     let mut tally = Tally::none();
-    let started = rules::start(FIRST);
+    let started = rules::start(FIRST, FIRST_ENTRY);
     let mut whole = started.table;
     let mut table = whole;
     let mut at = 0;

@@ -26,12 +26,13 @@ pub(crate) fn last_place(mark: u8) -> Queue {
     Queue { marks, len: 0 }
 }
 
-// A task of priority 0 with no result.
+// A task of priority 0 and entry number 0, with no result.
 pub(crate) fn bare(state: State, parent: u8) -> Task {
     Task {
         state,
         priority: 0,
         parent,
+        entry: 0,
         result: Result::Nothing,
     }
 }

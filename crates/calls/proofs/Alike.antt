@@ -1,33 +1,27 @@
 -- Two lists of calls that differ only in bytes show the same, call by call.
 use Prim.Native.Nat.{ℕ, _<_}
-use mathlib.Core.Path.{_≡_, refl, sym, subst, ap₂, _∙_}
-use mathlib.Core.Bool.{_&&_}
+use mathlib.Core.Path.{_≡_, refl, subst, ap₂, _∙_}
 use mathlib.Core.List.{List, _∷_, map, Forall₂, Forall₂·nil, Forall₂·cons}
 use lib.ListN.{length}
-use lib.Dec.{eqb}
 use Rattle.queue.proofs.Below.{by-test}
 use Rattle.task.specs.Task.{firstNegative}
 use Rattle.kernel.specs.declared.table.Table.{Table}
 use Rattle.rules.specs.Facts.{Good}
 use Rattle.image.specs.Image.{imageOf}
-use Rattle.image.specs.Call.{requestLength, requestFrom, answerLength, answerBytes}
+use Rattle.image.specs.Call.{requestFrom, answerBytes}
 use Rattle.laws.specs.Same.{SameButWrites}
 use Rattle.laws.proofs.SameRuns.{length-after, same-step, same-table}
 use Rattle.laws.proofs.Steps.{step-sound}
 use Rattle.calls.specs.Calls.{Lent, calls, isTaken, ofTaken, requestsOf}
 use Rattle.calls.specs.Laws.{SameButByte, seen}
-use Rattle.calls.proofs.Calls.{notTaken, other-call, taken-call}
-
--- both are taken, or neither is
-same-taken : {l l′ : Lent} → SameButByte l l′ → isTaken l′ ≡ isTaken l
-same-taken h = sym (ap₂ (λ answer n. eqb (length answer) answerLength && eqb n requestLength) (h .room) (h .sized))
+use Rattle.calls.proofs.Calls.{same-taken, notTaken, other-call, taken-call}
 
 pub same-requests : {ls ls′ : List Lent} → Forall₂ SameButByte ls ls′ → SameButWrites (requestsOf ls) (requestsOf ls′)
 unfolding ofTaken
 same-requests Forall₂·nil = Forall₂·nil
-same-requests (Forall₂·cons {a = l} h hs) =
-    by-test (isTaken l) (λ taken. rw (same-taken h, taken) (Forall₂·cons (h .asked) (same-requests hs)))
-    (λ other. rw (same-taken h, other) (same-requests hs))
+same-requests (Forall₂·cons {a = l} {b = l′} h hs) =
+    let both = same-taken l l′ (h .sized) (h .room) in
+    by-test (isTaken l) (λ taken. rw (both, taken) (Forall₂·cons (h .asked) (same-requests hs))) (λ other. rw (both, other) (same-requests hs))
 
 pub same-seen : {n : ℕ} → n < firstNegative → {ls ls′ : List Lent} → Forall₂ SameButByte ls ls′ → {t t′ : Table} → t ≡ t′ → Good n t
     → (areas areas′ : List ℕ) → length areas ≡ length areas′
@@ -35,12 +29,13 @@ pub same-seen : {n : ℕ} → n < firstNegative → {ls ls′ : List Lent} → F
 unfolding calls
 same-seen small Forall₂·nil e good areas areas′ size = refl
 same-seen {n} small (Forall₂·cons {a = l} {b = l′} h hs) {t} {t′} e good areas areas′ size =
+    let both = same-taken l l′ (h .sized) (h .room) in
     by-test (isTaken l)
     (λ taken.
-    rw (taken-call good areas l taken, taken-call (subst (Good n) e good) areas′ l′ (same-taken h ∙ taken))
+    rw (taken-call good areas l taken, taken-call (subst (Good n) e good) areas′ l′ (both ∙ taken))
     (ap₂ _∷_ (same-step (λ _ d. (d .answer .verdict, imageOf (d .table), answerBytes (d .answer))) (λ _ t a at v w. refl) (h .asked) e size)
     (same-seen small hs (same-table (h .asked) e size) (step-sound small t (requestFrom (l .request)) (length areas) good .good) _ _
     (simp length-after size))))
     (λ other.
-    rw (other-call n (imageOf t) areas l other, other-call n (imageOf t′) areas′ l′ (same-taken h ∙ other))
+    rw (other-call n (imageOf t) areas l other, other-call n (imageOf t′) areas′ l′ (both ∙ other))
     (ap₂ _∷_ (ap₂ (λ t answer. seen (notTaken (imageOf t) areas answer)) e (h .room)) (same-seen small hs e good areas areas′ size)))

@@ -1,7 +1,7 @@
 -- A list of calls on the image of a good table is a run of that table.
 use Prim.Native.Nat.{ℕ, _<_}
 use mathlib.Core.Path.{_≡_, refl, sym, ap, ap₂}
-use mathlib.Core.Bool.{true, false}
+use mathlib.Core.Bool.{true, false, _&&_}
 use mathlib.Core.List.{List, [], _∷_, map}
 use native.Mathlib.Omega.{arith}
 use lib.ListN.{length}
@@ -21,13 +21,17 @@ use Rattle.step.specs.Step.{step, after}
 use Rattle.step.specs.Run.{Done, run, lastOf}
 use Rattle.step.proofs.Steps.{refused-step}
 use Rattle.image.specs.declared.stored.Reading.{Reading}
-use Rattle.image.specs.Image.{imageOf, readImage}
+use Rattle.image.specs.Image.{imageOf, readNewest}
 use Rattle.image.specs.Call.{requestLength, requestFrom, answerLength, answerBytes}
 use Rattle.image.proofs.Laws.{image-reads, length-image}
 use Rattle.laws.proofs.Steps.{step-sound}
 use Rattle.entry.specs.Entry.{Call, call, called, due}
 use Rattle.entry.proofs.Calls.{due-step}
 use Rattle.calls.specs.Calls.{Lent, calls, isTaken, ofTaken, requestsOf, asCall}
+
+-- of two calls with the same lengths both are taken, or neither is
+pub same-taken : (l l′ : Lent) → length (l .request) ≡ length (l′ .request) → l .answer ≡ l′ .answer → isTaken l′ ≡ isTaken l
+same-taken l l′ sized room = sym (ap₂ (λ answer n. eqb (length answer) answerLength && eqb n requestLength) room sized)
 
 -- what a call that is not taken comes to, whatever it asks: refused by 5 where there is room for the answer, else by 10 with nothing shown
 abbrev pub notTaken : List ℕ → List ℕ → List ℕ → Call
@@ -58,7 +62,7 @@ module _ {n : ℕ} {t : Table} (good : Good n t) where
   taken-call areas l taken =
       let r = requestFrom (l .request) in
       let (room, asked) = both-true (eqb (length (l .answer)) answerLength) _ taken in
-      let read : readImage n (imageOf t) .table ≡ t = ap (λ (x : Reading). x .table) (image-reads n good) in
+      let read : readNewest n (imageOf t) .table ≡ t = ap (λ (x : Reading). x .table) (image-reads n good) in
       let is = due-step n (imageOf t) areas (l .request) (eqb-true _ _ asked) (length-image n good) in
       let d = step t r (length areas) in
       let v = d .answer .verdict in

@@ -26,9 +26,9 @@ use Rattle.calls.proofs.Alike.{same-requests, same-seen}
 use Rattle.calls.proofs.Cuts.{run-cuts}
 
 pub callsAreRun : CallsAreRun
-callsAreRun priority bytes areas ls started =
-    let (low, made) = start-fresh slotCount priority bytes started in
-    rw made (calls-run (omega arith) ls (fresh-good slotCount priority (omega arith) low) areas)
+callsAreRun priority entry bytes areas ls started =
+    let (low, made) = start-fresh slotCount priority entry bytes started in
+    rw made (calls-run (omega arith) ls (fresh-good slotCount priority entry (omega arith) low) areas)
 
 pub othersChangeNothing : OthersChangeNothing
 othersChangeNothing image areas l other = rw (other-call slotCount image areas l other) (refl, refl)
@@ -41,29 +41,29 @@ each-tells [] image areas = Forall₂·nil
 each-tells (l ∷ ls) image areas = Forall₂·cons (answerTells image areas (l .request) (l .answer)) (each-tells ls _ _)
 
 pub eachAnswerTells : EachAnswerTells
-eachAnswerTells priority bytes areas ls = each-tells ls _ areas
+eachAnswerTells priority entry bytes areas ls = each-tells ls _ areas
 
 pub hostIsToldOfCuts : HostIsToldOfCuts
-hostIsToldOfCuts priority bytes areas ls started size =
-    let (low, _) = start-fresh slotCount priority bytes started in
+hostIsToldOfCuts priority entry bytes areas ls started size =
+    let (low, _) = start-fresh slotCount priority entry bytes started in
     let answerOf : Call → List ℕ = λ c. c .answer in
-    rw (callsAreRun priority bytes areas ls started, map-map answerOf asCall (runFrom priority areas ls))
-    (run-cuts (omega arith) (fresh-good slotCount priority (omega arith) low) areas (requestsOf ls) size)
+    rw (callsAreRun priority entry bytes areas ls started, map-map answerOf asCall (runFrom priority entry areas ls))
+    (run-cuts (omega arith) (fresh-good slotCount priority entry (omega arith) low) areas (requestsOf ls) size)
 
 pub hostsAlike : HostsAlike
-hostsAlike priority bytes bytes′ areas areas′ ls ls′ started started′ size same =
-    let (low, made) = start-fresh slotCount priority bytes started in
-    let made′ = start-fresh slotCount priority bytes′ started′ .1 in (
-      rw (made, made′) (same-seen (omega arith) same refl (fresh-good slotCount priority (omega arith) low) areas areas′ size),
-      bytesDecideNothing (fresh slotCount priority) areas areas′ (requestsOf ls) (requestsOf ls′) size (same-requests same) .sameMovements,
+hostsAlike priority entry bytes bytes′ areas areas′ ls ls′ started started′ size same =
+    let (low, made) = start-fresh slotCount priority entry bytes started in
+    let made′ = start-fresh slotCount priority entry bytes′ started′ .1 in (
+      rw (made, made′) (same-seen (omega arith) same refl (fresh-good slotCount priority entry (omega arith) low) areas areas′ size),
+      bytesDecideNothing (fresh slotCount priority entry) areas areas′ (requestsOf ls) (requestsOf ls′) size (same-requests same) .sameMovements,
     )
 
 pub hostBytesHaveOrigins : HostBytesHaveOrigins
-hostBytesHaveOrigins priority bytes areas ls started =
-    let u = runFrom priority areas ls in
+hostBytesHaveOrigins priority entry bytes areas ls started =
+    let u = runFrom priority entry areas ls in
     let areasOf : Call → List ℕ = λ c. c .areas in
-    bytesHaveOrigins (fresh slotCount priority) areas (requestsOf ls)
-    ∙ sym (ap (λ cs. lastOf areas (map areasOf cs)) (callsAreRun priority bytes areas ls started) ∙ ap (lastOf areas) (map-map areasOf asCall u))
+    bytesHaveOrigins (fresh slotCount priority entry) areas (requestsOf ls)
+    ∙ sym (ap (λ cs. lastOf areas (map areasOf cs)) (callsAreRun priority entry bytes areas ls started) ∙ ap (lastOf areas) (map-map areasOf asCall u))
     ∙ last-taken slotCount ls _ areas
 
 pub linesAlike : LinesAlike

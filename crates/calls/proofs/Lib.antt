@@ -2,4 +2,5 @@ mod Calls
 mod Alike
 mod Cuts
 pub mod Laws
+pub mod Entries
 pub mod Determined

@@ -39,7 +39,7 @@ everyStep = tt
 begins : {S : Type 0} (s : S) → Begins 3 2 (made s)
 unfolding everyStep
 begins s =
-    let good = decide-sound (omega arith) (fresh-good 3 16 (omega arith) (omega arith)) makes .good in
+    let good = decide-sound (omega arith) (fresh-good 3 16 0 (omega arith) (omega arith)) makes .good in
     record {
       steps = record { small = omega arith; shaped = good-shaped good; good = facts-good 3 _ good; size = refl };
       least = omega arith;

@@ -29,7 +29,7 @@ makes = ask 1 8 0 0 0 0
 
 -- a kernel of three slots, once tid 2 was made; no byte is 0 but the first sixteen of tid 1
 unfoldable pub made : {S : Type 0} → S → World S
-made s = record { table = decide (fresh 3 16) makes .table; areas = replicate 16 0 ++ replicate 752 9; state = s }
+made s = record { table = decide (fresh 3 16 0) makes .table; areas = replicate 16 0 ++ replicate 752 9; state = s }
 
 abbrev pub clock : World Server
 clock = made (newServer 20)

@@ -50,8 +50,9 @@ fn asked(image: [u8; IMAGE], kind: u8, arg0: u8, arg1: u8) -> [u8; IMAGE] {
     next
 }
 
+// Each task has its priority as its entry number too.
 fn created(image: [u8; IMAGE], priority: u8) -> [u8; IMAGE] {
-    asked(image, CREATE as u8, priority, 0)
+    asked(image, CREATE as u8, priority, priority)
 }
 
 // The active task creates one above it, which runs at once and asks something.
@@ -66,7 +67,7 @@ fn sender(image: [u8; IMAGE]) -> [u8; IMAGE] {
 // Tids 1 to 5: ready at priority 16, waiting for events 3 and 5, send-blocked, and exited.
 fn served() -> [u8; IMAGE] {
     let mut fresh = [0u8; IMAGE];
-    kernel_start(16, &mut fresh);
+    kernel_start(16, 16, &mut fresh);
     let one = child(fresh, 8, AWAIT_EVENT as u8, 3, 0);
     let two = child(one, 9, AWAIT_EVENT as u8, 5, 0);
     let three = child(two, 10, RECEIVE as u8, 4, 16);

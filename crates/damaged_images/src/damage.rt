@@ -1,13 +1,12 @@
 // Which byte breaks a record where, and whether it does.
+use image::fields::RECORD;
 use image::stored::IMAGE;
 use image::stored::read;
 use kernel::numbers::BAD_TABLE;
 use std::num::wrapping_add_u64;
 use task::parts::RECEIVE_BLOCKED;
 
-// The bytes of a record, and how many positions there are.
-pub(crate) const RECORD: usize = 20;
-
+// How many positions a record has.
 pub(crate) const POSITIONS: u8 = RECORD as u8;
 
 // The first tid of no task.
@@ -24,7 +23,7 @@ fn wrong_target(state: u8, tid: u8) -> u8 {
 }
 
 // What a record cannot hold at a place: of the states that use the byte because it is out of its range, of the others because it is
-// not 0. Only the low bytes of a value have no such byte.
+// not 0. Only the low bytes of a value and those of an entry number have no such byte: of an unused slot these are not 0 either.
 pub(crate) fn wrong(tid: u8, state: u8, at: u8, old: u8) -> u8 {
     match at {
         0 => 8,
@@ -38,7 +37,7 @@ pub(crate) fn wrong(tid: u8, state: u8, at: u8, old: u8) -> u8 {
         14 => FIRST_UNUSED,
         15 => 2,
         16 => 252,
-        17 | 18 => beside(old),
+        17 | 18 | 20 | 21 | 22 | 23 => beside(old),
         _ => 128,
     }
 }

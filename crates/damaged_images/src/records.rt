@@ -1,10 +1,11 @@
 // Each byte of the used records, and of the first unused one, damaged alone.
 use crate::damage::POSITIONS;
-use crate::damage::RECORD;
 use crate::damage::breaks;
 use crate::damage::good_values;
 use crate::damage::wrong;
 use image::fields::CUT;
+use image::fields::ENTRY;
+use image::fields::RECORD;
 use image::stored::IMAGE;
 use libc::STDOUT_FILENO;
 use queue::wide;
@@ -44,12 +45,21 @@ fn broken_places(image: [u8; IMAGE], tid: u8) -> u64 {
     broken
 }
 
+// Which byte of a used record any other may stand for.
+fn write_free(at: u8) {
+    if wide(at) < ENTRY {
+        io::write_all(STDOUT_FILENO, b", a low byte of a value, ");
+    } else {
+        io::write_all(STDOUT_FILENO, b", a byte of the entry number, ");
+    }
+}
+
 // A place that is not refused, with how many of the 256 bytes are good there.
 fn write_good(image: [u8; IMAGE], tid: u8, at: u8) {
     if !is_broken(image, tid, at) {
         io::write_all(STDOUT_FILENO, b"; at ");
         io::print_decimal(STDOUT_FILENO, at as u64);
-        io::write_all(STDOUT_FILENO, b", a low byte of a value, ");
+        write_free(at);
         io::print_decimal(STDOUT_FILENO, good_values(image, place_of(tid, at)));
         io::write_all(STDOUT_FILENO, b" of 256 are good");
     }
@@ -62,7 +72,9 @@ fn write_record(image: [u8; IMAGE], tid: u8) {
     io::print_decimal(STDOUT_FILENO, byte_at(image, place_of(tid, 0)) as u64);
     io::write_all(STDOUT_FILENO, b": ");
     io::print_decimal(STDOUT_FILENO, broken_places(image, tid));
-    io::write_all(STDOUT_FILENO, b" of 20 refused");
+    io::write_all(STDOUT_FILENO, b" of ");
+    io::print_decimal(STDOUT_FILENO, POSITIONS as u64);
+    io::write_all(STDOUT_FILENO, b" refused");
     let mut at = 0u8;
     while at < POSITIONS {
         write_good(image, tid, at);

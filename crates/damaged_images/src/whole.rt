@@ -3,8 +3,10 @@ use entry::kernel_step;
 use image::call::ANSWER;
 use image::call::REQUEST;
 use image::fields::AWAITED;
+use image::fields::ENTRY;
 use image::fields::PLACE;
 use image::fields::RECORD;
+use image::form::reform;
 use image::stored::IMAGE;
 use image::stored::read;
 use kernel::numbers::EVENT;
@@ -13,6 +15,9 @@ use tid::sizes::AREA;
 use tid::sizes::SLOTS;
 
 const SEED: u32 = 2026;
+
+// How long an image of the old form is.
+const OLD: usize = SLOTS * ENTRY;
 
 // What a step says of an image: an event that nobody awaits is refused for nothing else.
 fn step_verdict(image: &mut [u8]) -> u32 {
@@ -53,6 +58,13 @@ fn longer(image: [u8; IMAGE]) -> [u8; IMAGE + 1] {
     long
 }
 
+// The image in the old form, whose records end before the entry number.
+fn shorter(image: [u8; IMAGE]) -> [u8; OLD] {
+    let mut old = [0u8; OLD];
+    reform(&image, &mut old);
+    old
+}
+
 // The next of 65,537 numbers, all of which are met but one.
 fn drawn(x: u32) -> u32 {
     ((x % 65537) * 75 + 74) % 65537
@@ -83,16 +95,23 @@ fn sent_to(image: [u8; IMAGE], target: u8) -> [u8; IMAGE] {
     other
 }
 
-pub(crate) fn write_wholes(image: [u8; IMAGE]) {
+// Other lengths.
+pub(crate) fn write_lengths(image: [u8; IMAGE]) {
     let long = longer(image);
+    let mut old = shorter(image);
+    write_part(b"no byte", long, 0);
+    write_part(b"767 bytes", long, IMAGE - 1);
+    write_part(b"769 bytes", long, IMAGE + 1);
+    write_whole(b"the old form", &mut old);
+}
+
+// Other bytes.
+pub(crate) fn write_wholes(image: [u8; IMAGE]) {
     let mut zeros = [0u8; IMAGE];
     let mut noise = random();
     let mut unbroken = image;
     let mut at_another = sent_to(image, 12);
     let mut at_exited = sent_to(image, 5);
-    write_part(b"no byte", long, 0);
-    write_part(b"639 bytes", long, IMAGE - 1);
-    write_part(b"641 bytes", long, IMAGE + 1);
     write_whole(b"all zero", &mut zeros);
     write_whole(b"random bytes", &mut noise);
     write_whole(b"the unbroken image", &mut unbroken);

@@ -17,7 +17,7 @@ use Rattle.rules.proofs.Fresh.{unused-broken}
 use Rattle.step.specs.Step.{after}
 use Rattle.step.proofs.Steps.{refused-step, step-broken, step-decides}
 use Rattle.image.specs.Record.{recordLength}
-use Rattle.image.specs.Image.{tableOf, isImage, readImage}
+use Rattle.image.specs.Image.{tableOf, isImage, readNewest}
 use Rattle.image.specs.Call.{requestLength, requestFrom, answerLength, answered}
 use Rattle.image.proofs.Laws.{write-back}
 use Rattle.inplace.specs.declared.Shown.{Shown}
@@ -30,17 +30,17 @@ module _ (n : ℕ) (image areas request answer : List ℕ) (room : length answer
   -- what is decided of the image is what is due; where it is none, of another table, which is not written
   due-decided : {shown : Shown} {image′ : List ℕ} → Decided (decidedIn n image (requestFrom request)) image shown image′
       → Decided (due n image areas request) image shown image′
-  unfolding decidedIn readImage
+  unfolding decidedIn readNewest
   due-decided d =
       let r = requestFrom request in
       let step = due-step n image areas request asked sized in
       let whole = eq-eqb (length image) (n * recordLength) sized in
       by-test (isImage n image)
       (λ good.
-      let table : readImage n image .table ≡ tableOf n image = rw (whole, good) in
+      let table : readNewest n image .table ≡ tableOf n image = rw (whole, good) in
       rw (step, table, step-decides _ r (length areas) (write-back n good .0) lent) (rw (whole, good) at d))
       (λ bad.
-      let table : readImage n image .table ≡ unusedTable n = rw (whole, bad) in
+      let table : readNewest n image .table ≡ unusedTable n = rw (whole, bad) in
       let slots : length areas ≡ length (unusedTable n .tasks) * areaBytes = rw length-replicate lent in
       let was = rw (whole, bad) at d in
       rw (step, table, step-broken _ r (length areas) slots (unused-broken n))

@@ -1,62 +1,73 @@
 -- What a start comes to on each of its ways.
-use Prim.Native.Nat.{ℕ, _*_, _≤_, _<_}
-use mathlib.Core.Path.{_≡_, refl, _∙_}
+use Prim.Native.Nat.{ℕ, _*_, _^_, _≤_, _<_}
+use mathlib.Core.Path.{_≡_, refl, sym, ap, _∙_}
 use mathlib.Core.Logic.{_≢_}
 use mathlib.Core.Bool.{not}
 use mathlib.Core.List.{List}
 use native.Mathlib.Omega.{arith}
 use lib.ListN.{length, set, replicate}
+use lib.Seq.{paste}
 use lib.Dec.{ltb, eqb}
 use borrow.Author.Tests.{eq-eqb, ne-eqb, lt-ltb, le-ltb, ltb-true}
 use Rattle.queue.proofs.Below.{by-test}
 use Rattle.tid.specs.Sizes.{slotCount, priorities}
+use Rattle.task.specs.declared.task.Result.the-variants.{Nothing}
+use Rattle.task.specs.declared.task.State.the-variants.{Active}
+use Rattle.task.specs.Task.{entryOf}
 use Rattle.task.proofs.Tests.{chosen}
 use Rattle.kernel.specs.Numbers.{accepted, badImage, badPriority}
-use Rattle.rules.specs.Fresh.{firstTask, fresh, started}
-use Rattle.image.specs.Record.{recordLength, atState, atPriority, fields}
+use Rattle.rules.specs.Fresh.{fresh, started}
+use Rattle.image.specs.Bytes.{bytesOf}
+use Rattle.image.specs.Record.{recordLength, atState, atPriority, atEntry, fields}
 use Rattle.image.specs.Image.{imageOf}
 use Rattle.records.specs.Records.{withRecord}
 use Rattle.records.proofs.Fresh.{fresh-image}
 use Rattle.entry.specs.Entry.{StartCall, startCall, startCalled}
 
-module _ (n priority : ℕ) (image : List ℕ) where
-  pub start-refused : priorities ≤ priority → startCall badPriority image ≡ startCalled n priority image
+module _ (n priority entry : ℕ) (image : List ℕ) where
+  pub start-refused : priorities ≤ priority → startCall badPriority image ≡ startCalled n priority entry image
   unfolding startCalled
   start-refused none = rw (le-ltb priority priorities none)
 
   module _ (some : priority < priorities) where
-    pub start-wrong : length image ≢ n * recordLength → startCall badImage image ≡ startCalled n priority image
+    pub start-wrong : length image ≢ n * recordLength → startCall badImage image ≡ startCalled n priority entry image
     unfolding startCalled
     start-wrong other = rw (lt-ltb priority priorities some, ne-eqb (length image) (n * recordLength) other)
 
-    pub start-made : length image ≡ n * recordLength → {image′ : List ℕ} → image′ ≡ imageOf (fresh n priority)
-        → startCall accepted image′ ≡ startCalled n priority image
+    pub start-made : length image ≡ n * recordLength → {image′ : List ℕ} → image′ ≡ imageOf (fresh n priority entry)
+        → startCall accepted image′ ≡ startCalled n priority entry image
     unfolding startCalled
     start-made sized i = rw (i, lt-ltb priority priorities some, eq-eqb (length image) (n * recordLength) sized)
 
   -- an accepted start has a priority that there is, and leaves the image of a fresh table
-  pub start-fresh : let c = startCalled n priority image in
-      c .verdict ≡ accepted → (priority < priorities) × (c .image ≡ imageOf (fresh n priority))
+  pub start-fresh : let c = startCalled n priority entry image in
+      c .verdict ≡ accepted → (priority < priorities) × (c .image ≡ imageOf (fresh n priority entry))
   unfolding startCalled
   start-fresh =
-      let P : StartCall → Type 0 = λ c. c .verdict ≡ accepted → (priority < priorities) × (c .image ≡ imageOf (fresh n priority)) in
+      let P : StartCall → Type 0 = λ c. c .verdict ≡ accepted → (priority < priorities) × (c .image ≡ imageOf (fresh n priority entry)) in
       by-test (ltb priority priorities)
       (λ low. rw low
       (chosen P (not (eqb (length image) (n * recordLength))) (λ _ e. absurd (omega arith)) (λ _ _. (ltb-true priority priorities low, refl))))
       (λ high. rw high (λ e. absurd (omega arith)))
 
-  pub start-keeps : let c = startCalled n priority image in c .verdict ≢ accepted → c .image ≡ image
+  pub start-keeps : let c = startCalled n priority entry image in c .verdict ≢ accepted → c .image ≡ image
   unfolding startCalled
   start-keeps =
       let P : StartCall → Type 0 = λ c. c .verdict ≢ accepted → c .image ≡ image in
-      chosen P (ltb accepted (started n priority .verdict)) (λ _ _. refl)
+      chosen P (ltb accepted (started n priority entry .verdict)) (λ _ _. refl)
       (λ _. chosen P (not (eqb (length image) (n * recordLength))) (λ _ _. refl) (λ _ no. absurd (no refl)))
 
--- the first task's record differs from zeros in its state and its priority
-pub first-stored : (priority m : ℕ) → m ≡ slotCount * recordLength
-    → set (set (replicate m 0) atState 1) atPriority priority ≡ imageOf (fresh slotCount priority)
-first-stored priority m e = rw e (two-stored priority ∙ fresh-image slotCount priority (omega arith))
+-- the first task's record differs from zeros in its state, its priority and its entry number
+pub first-stored : (priority entry m : ℕ) → entry < 2 ^ 32 → m ≡ slotCount * recordLength
+    → set (set (paste (replicate m 0) atEntry (bytesOf 4 entry) 4) atState 1) atPriority priority ≡ imageOf (fresh slotCount priority entry)
+first-stored priority entry m word e =
+    let low : entryOf entry ≡ entry = omega arith in
+    let zeros : List ℕ = replicate (slotCount * recordLength) 0 in
+    rw e
+    (ap (λ (x : ℕ). set (set (paste zeros atEntry (bytesOf 4 x) 4) atState 1) atPriority priority) (sym low)
+    ∙ three-stored priority (entryOf entry) ∙ fresh-image slotCount priority entry (omega arith))
   where
-    two-stored : (priority : ℕ) → let zeros : List ℕ = replicate (slotCount * recordLength) 0 in
-        set (set zeros atState 1) atPriority priority ≡ withRecord zeros 0 (fields (firstTask priority) 0)
-    two-stored priority = refl
+    three-stored : (priority entry : ℕ) → let zeros : List ℕ = replicate (slotCount * recordLength) 0 in
+        set (set (paste zeros atEntry (bytesOf 4 entry) 4) atState 1) atPriority priority
+        ≡ withRecord zeros 0 (fields (record { state = Active; priority = priority; parent = 0; entry = entry; result = Nothing }) 0)
+    three-stored priority entry = refl

@@ -3,6 +3,7 @@ use entry::kernel_start;
 use entry::kernel_step;
 use image::call::ANSWER;
 use image::call::REQUEST;
+use image::fields::RECORD;
 use image::stored::IMAGE;
 use kernel::numbers::CREATE;
 use kernel::numbers::OWN_WRITE;
@@ -16,9 +17,9 @@ use tid::sizes::SLOTS;
 const AREAS: usize = SLOTS * AREA;
 
 // Where tid 2's record starts and ends in an image.
-const SECOND: usize = 20;
+const SECOND: usize = RECORD;
 
-const THIRD: usize = 40;
+const THIRD: usize = 2 * RECORD;
 
 // A kernel between two calls.
 struct Host {
@@ -62,19 +63,16 @@ fn received(host: Host) {
 
 fn started() -> Host {
     let mut image = [0u8; IMAGE];
-    kernel_start(16, &mut image);
+    kernel_start(16, 7, &mut image);
     Host {
         image,
         areas: [0; AREAS],
     }
 }
 
-// A request whose numbers are all below 256, and its answer.
-fn asked(host: Host, kind: u8, a: u8, b: u8, c: u8, d: u8, e: u8) -> Host {
-    let mut image = host.image;
-    let mut areas = host.areas;
-    let mut answer = [0u8; ANSWER];
-    let request = [
+// A request whose numbers are all below 256.
+fn request(kind: u8, a: u8, b: u8, c: u8, d: u8, e: u8) -> [u8; REQUEST] {
+    [
         kind,
         0,
         0,
@@ -99,7 +97,23 @@ fn asked(host: Host, kind: u8, a: u8, b: u8, c: u8, d: u8, e: u8) -> Host {
         0,
         0,
         0,
-    ];
+    ]
+}
+
+// The entry number's bytes differ, so that their order is seen.
+fn create() -> [u8; REQUEST] {
+    let mut bytes = request(CREATE as u8, 8, 1, 0, 0, 0);
+    bytes[9] = 2;
+    bytes[10] = 3;
+    bytes[11] = 4;
+    bytes
+}
+
+// A request, and its answer.
+fn asked(host: Host, request: [u8; REQUEST]) -> Host {
+    let mut image = host.image;
+    let mut areas = host.areas;
+    let mut answer = [0u8; ANSWER];
     line(b"request", &request, 0, REQUEST);
     kernel_step(&mut image, &mut areas, &request, &mut answer);
     line(b"answer ", &answer, 0, ANSWER);
@@ -109,16 +123,16 @@ fn asked(host: Host, kind: u8, a: u8, b: u8, c: u8, d: u8, e: u8) -> Host {
 fn main() {
     let fresh = started();
     first(fresh);
-    let created = asked(fresh, CREATE as u8, 8, 0, 0, 0, 0);
+    let created = asked(fresh, create());
     first(created);
     second(created);
-    let waiting = asked(created, RECEIVE as u8, 0, 4, 0, 0, 0);
+    let waiting = asked(created, request(RECEIVE as u8, 0, 4, 0, 0, 0));
     second(waiting);
-    let written = asked(waiting, OWN_WRITE as u8, 10, 65, 0, 0, 0);
-    let sent = asked(written, SEND as u8, 2, 10, 6, 20, 1);
+    let written = asked(waiting, request(OWN_WRITE as u8, 10, 65, 0, 0, 0));
+    let sent = asked(written, request(SEND as u8, 2, 10, 6, 20, 1));
     first(sent);
     second(sent);
     received(sent);
-    let replied = asked(sent, REPLY as u8, 1, 0, 3, 0, 0);
+    let replied = asked(sent, request(REPLY as u8, 1, 0, 3, 0, 0));
     first(replied);
 }

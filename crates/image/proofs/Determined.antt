@@ -5,6 +5,10 @@ use denote.Ref.{now}
 use Rattle.tid.specs.Determined.{Determines, DeterminesResult}
 use Rattle.image.proofs.stored.read.Reads as read
 use Rattle.image.proofs.stored.write.Reads as write
+use Rattle.image.proofs.stored.convert.Reads as convert
+use Rattle.image.proofs.form.form_at.Reads as form-at
+use Rattle.image.proofs.form.form_for.Reads as form-for
+use Rattle.image.proofs.form.reform.Reads as reform
 use Rattle.image.proofs.call.request_from.Reads as request-from
 use Rattle.image.proofs.call.put_answer.Reads as put-answer
 use Rattle.image.proofs.words.word.Reads as word
@@ -17,6 +21,18 @@ read-determined κs a r r′ s s′ p p′ = (p ∙⁻¹ p′, refl)
 
 write-determined : (κs : _) (a : _) → Determines (write.Post κs a) (λ s. now (s .1 .0))
 write-determined κs a r r′ s s′ p p′ = (p .0 ∙⁻¹ p′ .0, p .1 ∙⁻¹ p′ .1)
+
+convert-determined : (κs : _) (a : _) → Determines (convert.Post κs a) (λ s. now (s .1 .0))
+convert-determined κs a r r′ s s′ p p′ = (p .0 ∙⁻¹ p′ .0, p .1 ∙⁻¹ p′ .1)
+
+form-at-determined : (κs : _) (a : _) → DeterminesResult (form-at.Post κs a)
+form-at-determined κs a r r′ s s′ p p′ = (p ∙⁻¹ p′, refl)
+
+form-for-determined : (κs : _) (a : _) → DeterminesResult (form-for.Post κs a)
+form-for-determined κs a r r′ s s′ p p′ = (p ∙⁻¹ p′, refl)
+
+reform-determined : (κs : _) (a : _) → Determines (reform.Post κs a) (λ s. now (s .1 .0))
+reform-determined κs a r r′ s s′ p p′ = (refl, p ∙⁻¹ p′)
 
 request-from-determined : (κs : _) (a : _) → DeterminesResult (request-from.Post κs a)
 request-from-determined κs a r r′ s s′ p p′ = (p ∙⁻¹ p′, refl)

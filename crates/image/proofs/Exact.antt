@@ -1,13 +1,13 @@
 -- Bytes are the image of a good table exactly where the table that they give is good and each record is exact.
-use Prim.Native.Nat.{ℕ, zero, suc, _+_, _*_, _≤_, _<_}
-use mathlib.Core.Path.{_≡_, refl, sym, ap, ap₂, _∙_}
+use Prim.Native.Nat.{ℕ, _+_, _*_, _≤_, _<_}
+use mathlib.Core.Path.{_≡_, sym, ap, ap₂, _∙_}
 use mathlib.Core.Bool.{true, _&&_, and-comm, false≢true}
 use mathlib.Core.List.{List}
-use native.Mathlib.Nat.{suc-mul, mul-le-mul-right, le-refl}
+use native.Mathlib.Nat.{le-refl}
 use native.Mathlib.Omega.{arith}
 use native.Mathlib.Decide.{decLt}
-use lib.ListN.{length, take, drop, length-take, length-drop, List·getD-eq-default}
-use lib.Seq.{getD-drop, getD-take, take-all, take-add}
+use lib.ListN.{length, take, drop, length-take, List·getD-eq-default}
+use lib.Seq.{getD-drop, getD-take, take-all}
 use borrow.Author.Tests.{eqb-true, eq-eqb, ltb-true}
 use Rattle.queue.specs.Choose.{choose}
 use Rattle.tid.specs.Sizes.{events}
@@ -34,6 +34,7 @@ use Rattle.image.specs.Record.{recordLength, storedPlace, taskRecord, re
 use Rattle.image.specs.Image.{imageOf, tableOf, isImage, judgedImage}
 use Rattle.image.specs.Exact.{exactRecord, exactUpTo, decodedOf, checkedPlaced}
 use Rattle.image.proofs.Bytes.{recordAt-inOrder, same-true, same-refl}
+use Rattle.image.proofs.Fitted.{records-all, in-order-same, length-record}
 use Rattle.image.proofs.Stands.{stored-in, stored-none}
 use Rattle.image.proofs.Record.{length-recordOf}
 use Rattle.image.proofs.Rebuilt.{Bytes, placeKept, keptPlace, exact-record}
@@ -47,11 +48,6 @@ part-small bytes small at k i = elim (decLt i k) [
       let past : length (take k (drop at bytes)) ≤ i = rw length-take (omega arith) in
       omega (arith, List·getD-eq-default (take k (drop at bytes)) 0 {n = i} past)
 ]
-
-pub in-order-same : (f h : ℕ → List ℕ) (k : ℕ) → ((s : ℕ) → s < k → f s ≡ h s) → inOrder f k ≡ inOrder h k
-unfolding inOrder
-in-order-same f h zero e = refl
-in-order-same f h (suc k) e = rw (in-order-same f h k (λ s l. e s (omega arith)), e k (omega arith))
 
 pub image-is : (t : Table) (n : ℕ) → slots t ≡ n → imageOf t ≡ inOrder (recordOf t) n
 unfolding imageOf
@@ -119,16 +115,9 @@ module _ (n : ℕ) (bytes : List ℕ) where
         → exactRecord (recordAt recordLength bytes s) ≡ same (recordOf (tableOf n bytes) s) (recordAt recordLength bytes s)
     record-again whole small =
         let r = recordAt recordLength bytes s in
-        let fits : s * recordLength + recordLength ≤ n * recordLength = rw suc-mul at (mul-le-mul-right recordLength l) in
-        let size : length r ≡ recordLength = rw (length-take, length-drop) (omega arith) in
+        let size = length-record n recordLength bytes s l whole in
         let again = ap₂ taskRecord (task-read n bytes n s (omega arith) l) place-read in
         exact-record r size (part-small bytes small (s * recordLength) recordLength) ∙ ap (λ (x : List ℕ). same x r) (sym again)
-
-  -- the records one after another are the bytes
-  pub records-all : (k : ℕ) → inOrder (recordAt recordLength bytes) k ≡ take (k * recordLength) bytes
-  unfolding inOrder
-  records-all zero = refl
-  records-all (suc k) = rw (records-all k, suc-mul) (sym (take-add (k * recordLength) recordLength bytes))
 
 -- every record is exact, or the image is another
 pub image-exact : (n : ℕ) (bytes : List ℕ) → length bytes ≡ n * recordLength → Bytes bytes
@@ -151,7 +140,7 @@ image-exact n bytes whole small =
     (λ h.
     let each = all-below n (λ s. exactRecord (recordAt recordLength bytes s)) h in
     let all = in-order-same (recordOf t) (recordAt recordLength bytes) n (λ s l. same-true _ _ (sym (record-again n bytes g s l whole small) ∙ each s l)) in
-    rw (image-is t n count, all, records-all n bytes n, take-all (n * recordLength) bytes (omega arith)) (same-refl bytes))))
+    rw (image-is t n count, all, records-all recordLength bytes n, take-all (n * recordLength) bytes (omega arith)) (same-refl bytes))))
     (λ bad. rw bad)
 
 -- what is given, by what is asked of the decoded table, whose rows were made from the records
@@ -160,14 +149,12 @@ pub given-placed : (n : ℕ) (bytes : List ℕ) → length bytes ≡ n * recordL
     → k ≡ checkedPlaced (d .table) bytes
     → verdict ≡ choose (d .exact && k .good) accepted badTable
     → record { table = d .table; active = k .active; verdict = verdict } ≡ judgedImage n bytes
-unfolding judgedImage
 given-placed n bytes whole small decoded checked verdict =
     let t = tableOf n bytes in
     rw (
       verdict,
       checked,
       decoded,
-      eq-eqb (length bytes) (n * recordLength) whole,
       image-exact n bytes whole small,
       placed-good n t (placeRead bytes) (table-made n bytes),
     )

@@ -21,7 +21,7 @@ use Rattle.image.specs.declared.fields.ResultParts.{ResultParts}
 use Rattle.image.specs.Bytes.{bytesOf, numberIn, same}
 use Rattle.task.specs.Result.{negated, resultWord}
 use Rattle.image.specs.ResultParts.{resultPartsOf}
-use Rattle.image.specs.Record.{recordLength, atState, atPriority, atParent, atPlace, atAwaited, atResult, atMessage, atReply, atFrom, atCut, atWord, byteIn, bufferIn, bufferBytes, partsOf, partsIn, resultPartsIn, stateFrom, resultOf, fields, taskRecord, usedFrom, taskFrom, placeFrom}
+use Rattle.image.specs.Record.{recordLength, atState, atPriority, atParent, atPlace, atAwaited, atResult, atMessage, atReply, atFrom, atCut, atWord, atEntry, byteIn, bufferIn, bufferBytes, partsOf, partsIn, resultPartsIn, stateFrom, resultOf, fields, taskRecord, usedFrom, taskFrom, placeFrom}
 use Rattle.image.specs.Exact.{sameParts, sameResultParts, exactPlace, exactUsed, exactRecord}
 use Rattle.image.proofs.Made.{record-made, eqb-same}
 use Rattle.image.proofs.Bytes.{number-back, same-true, same-refl}
@@ -57,6 +57,7 @@ rebuilt : (r : List ℕ) (place : ℕ) → length r ≡ recordLength → Bytes r
     → byteIn r atState ∷ byteIn r atPriority ∷ byteIn r atParent ∷ place ∷ byteIn r atAwaited ∷ byteIn r atResult
     ∷ (bufferBytes (bufferIn r atMessage) ++ bufferBytes (bufferIn r atReply))
     ++ (byteIn r atFrom ∷ byteIn r atCut ∷ bytesOf 4 (numberIn r atWord 4))
+    ++ bytesOf 4 (numberIn r atEntry 4)
     ≡ r
 rebuilt r place size small p =
     let m₁ = bytes-back 2 6 r small in
@@ -64,10 +65,11 @@ rebuilt r place size small p =
     let r₁ = bytes-back 2 10 r small in
     let r₂ = bytes-back 2 12 r small in
     let w = bytes-back 4 16 r small in
-    let again : _ ≡ listed 20 0 r =
+    let e = bytes-back 4 20 r small in
+    let again : _ ≡ listed recordLength 0 r =
     λ i. byteIn r atState ∷ byteIn r atPriority ∷ byteIn r atParent ∷ p i ∷ byteIn r atAwaited ∷ byteIn r atResult
-    ∷ ((m₁ i ++ m₂ i) ++ (r₁ i ++ r₂ i)) ++ (byteIn r atFrom ∷ byteIn r atCut ∷ w i) in
-    again ∙ listed-drop 20 0 r size
+    ∷ ((m₁ i ++ m₂ i) ++ (r₁ i ++ r₂ i)) ++ (byteIn r atFrom ∷ byteIn r atCut ∷ w i) ++ e i in
+    again ∙ listed-drop recordLength 0 r size
 
 -- the place that a record's task is written with
 abbrev pub placeKept : List ℕ → Task → ℕ

@@ -1,6 +1,6 @@
--- Demand 2: what is written reads back, and what is read is written again unchanged. Each is a statement; proofs/Laws.antt proves it
+-- Demand 2: what is written reads back, and what is read is written again unchanged, in every form. Each is a statement; proofs/Laws.antt proves it
 -- under the same name in small letters. `image::stored::write` and `image::stored::read` promise `written` and `readImage`.
-use Prim.Native.Nat.{ℕ, _<_, _^_}
+use Prim.Native.Nat.{ℕ, _*_, _<_, _^_}
 use mathlib.Core.Path.{_≡_}
 use mathlib.Core.Bool.{true}
 use mathlib.Core.List.{List}
@@ -10,7 +10,9 @@ use Rattle.kernel.specs.declared.table.Answer.{Answer}
 use Rattle.kernel.specs.Numbers.{accepted}
 use Rattle.kernel.specs.Shape.{Shaped}
 use Rattle.rules.specs.Good.{goodResult}
-use Rattle.image.specs.Image.{reading, readImage, writeVerdict, written}
+use Rattle.image.specs.Image.{reading}
+use Rattle.image.specs.Stored.{readImage, writeVerdict, written, convertVerdict, converted}
+use Rattle.image.specs.Record.{recordLength}
 use Rattle.image.specs.Call.{answerBytes, answerFrom}
 
 -- A table of n slots that was written as records reads back as that table, whatever the bytes held before.
@@ -24,6 +26,27 @@ abbrev pub ReadIsWritten : Type 0
 ReadIsWritten =
     (n : ℕ) (bytes : List ℕ) → let t = readImage n bytes .table in
     readImage n bytes .verdict ≡ accepted → (writeVerdict t (length bytes) ≡ accepted) × (written t bytes ≡ bytes)
+
+-- Conversion.
+
+-- What was converted reads as the table that was there.
+-- Ruled out: a conversion that drops the entry number of a task that has exited.
+abbrev pub ConvertedIsRead : Type 0
+ConvertedIsRead =
+    (n : ℕ) (image out : List ℕ) → convertVerdict n image (length out) ≡ accepted
+    → readImage n (converted n image out) ≡ readImage n image
+
+-- There and back gives the same bytes: what was converted is converted into the length that it came from, whatever those bytes held.
+abbrev pub ThereAndBack : Type 0
+ThereAndBack =
+    (n : ℕ) (image out back : List ℕ) → length back ≡ length image → convertVerdict n image (length out) ≡ accepted
+    → let there = converted n image out in
+    (convertVerdict n there (length back) ≡ accepted) × (converted n there back ≡ image)
+
+-- Every image that is read is written in the newest form: the way from an old form is refused by 7 or 2 alone.
+abbrev pub NewestHoldsAll : Type 0
+NewestHoldsAll =
+    (n : ℕ) (image : List ℕ) → readImage n image .verdict ≡ accepted → convertVerdict n image (n * recordLength) ≡ accepted
 
 -- The bytes of an answer tell that answer, where its numbers are words and its result is one that may be shown of n tids.
 abbrev pub AnswerIsRead : Type 0

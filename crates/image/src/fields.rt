@@ -27,7 +27,7 @@ ghost use Rattle.image.specs.Record.{recordLength, plainParts, partsOf, 
 ghost use Rattle.image.specs.Exact.{sameResultParts, statedFrom, taskRead};
 
 // A record's length, and where its fields start.
-pub const RECORD: usize = 20;
+pub const RECORD: usize = 24;
 
 pub const STATE: usize = 0;
 
@@ -50,6 +50,8 @@ pub const FROM: usize = 14;
 pub const CUT: usize = 15;
 
 pub const WORD: usize = 16;
+
+pub const ENTRY: usize = 20;
 
 // The kinds of a result.
 pub const NOTHING: u8 = 0;
@@ -301,6 +303,7 @@ fn no_task() -> Task
         state: State::Unused,
         priority: 0,
         parent: 0,
+        entry: 0,
         result: Result::Nothing,
     }
 }
@@ -330,6 +333,7 @@ pub(crate) fn task_read(r: &[u8]) -> TaskRead
         state,
         priority: r[PRIORITY],
         parent: r[PARENT],
+        entry: word_in(r, ENTRY),
         result,
     };
     let exact = stated.exact & exact_result(numbers);
@@ -347,6 +351,7 @@ pub fn fields_of(x: Task, place: u8) -> [u8; RECORD]
     let m = parts.message;
     let r = parts.reply;
     let w = numbers.word;
+    let e = x.entry;
     [
         parts.code,
         x.priority,
@@ -368,6 +373,10 @@ pub fn fields_of(x: Task, place: u8) -> [u8; RECORD]
         (w / 256 % 256) as u8,
         (w / 256 / 256 % 256) as u8,
         (w / 256 / 256 / 256 % 256) as u8,
+        (e % 256) as u8,
+        (e / 256 % 256) as u8,
+        (e / 256 / 256 % 256) as u8,
+        (e / 256 / 256 / 256 % 256) as u8,
     ]
 }
 

@@ -3,9 +3,15 @@ use crate::fields::PLACE;
 use crate::fields::RECORD;
 use crate::fields::record_of;
 use crate::fields::task_read;
+use crate::form::FORMS;
+use crate::form::Form;
+use crate::form::form_at;
+use crate::form::form_for;
+use crate::form::reform;
 use kernel::numbers::ACCEPTED;
 use kernel::numbers::BAD_IMAGE;
 use kernel::numbers::BAD_TABLE;
+use kernel::numbers::ENTRY_LOST;
 use kernel::table::Table;
 use queue::Queue;
 use queue::numbering::FIRST_SEND;
@@ -30,10 +36,12 @@ ghost use Rattle.queue.specs.Numbering.{places};
 ghost use Rattle.queue.specs.Placed.{placedRow};
 ghost use Rattle.rules.specs.Fresh.{unusedTable};
 ghost use Rattle.image.specs.Record.{recordLength};
-ghost use Rattle.image.specs.Image.{reading, judgedImage, readImage, stored, writeVerdict, written};
+ghost use Rattle.image.specs.Form as Forms;
+ghost use Rattle.image.specs.Image.{imageOf, reading, judgedImage};
+ghost use Rattle.image.specs.Stored.{readImage, writeVerdict, written, convertVerdict, converted};
 ghost use Rattle.image.specs.Exact.{decodedOf, checkedPlaced};
 
-// How long an image is.
+// How long an image of the newest form is.
 pub const IMAGE: usize = SLOTS * RECORD;
 
 // What reading an image gives: a table, its active slot (SLOTS where none is) and a verdict of 0, which is no refusal.
@@ -111,13 +119,11 @@ fn put_record(out: &mut [u8], at: usize, r: [u8; RECORD])
     }
 }
 
-// The records of a table, good or not; where the bytes are of another length, nothing.
+// The records of a table, good or not, in the newest form.
 fn store(table: Table, out: &mut [u8])
-    ensures { λ r. ⌜ now (out .exit) ≡ stored table (now (out .entry)) ⌝ }
+    requires { ⌜ length (now out) ≡ slotCount * recordLength ⌝ }
+    ensures { λ r. ⌜ now (out .exit) ≡ imageOf table ⌝ }
 {
-    if out.len() != IMAGE {
-        return;
-    }
     let mut s = 0;
     while s < SLOTS {
         let task = table.tasks[s];
@@ -132,20 +138,43 @@ fn store(table: Table, out: &mut [u8])
     }
 }
 
-// The records of a good table. Refused by 7 where the bytes are of another length, then by 2 where a rule is broken:
-// no byte is written then.
+// Whether a form lacks nothing that the table has: where it holds no entry number, each is 0.
+fn holds(form: Form, table: Table) -> bool
+    ensures { λ r. ⌜ r ≡ Forms.holds form table ⌝ }
+{
+    if form.entries {
+        return true;
+    }
+    let mut none = true;
+    let mut s = 0;
+    while s < SLOTS {
+        let task = table.tasks[s];
+        none &= task.entry == 0;
+        s += 1;
+    }
+    none
+}
+
+// The records of a good table, in the form that has as many bytes. Refused by 7 where none has, then by 2 where a rule is broken, then by 11
+// where the form has no room for an entry number: no byte is written then.
 pub fn write(table: Table, out: &mut [u8]) -> u8
     ensures verdict { λ r. ⌜ r ≡ writeVerdict table (length (now (out .entry))) ⌝ }
     ensures bytes { λ r. ⌜ now (out .exit) ≡ written table (now (out .entry)) ⌝ }
 {
-    if out.len() != IMAGE {
+    let k = form_for(out.len());
+    if FORMS <= k {
         return BAD_IMAGE;
     }
     let checked = rules::check(table);
     if !checked.good {
         return BAD_TABLE;
     }
-    store(table, &mut *out);
+    if !holds(form_at(k), table) {
+        return ENTRY_LOST;
+    }
+    let mut newest = [0u8; IMAGE];
+    store(table, &mut newest);
+    reform(&newest, &mut *out);
     ACCEPTED
 }
 
@@ -184,13 +213,11 @@ fn check_placed(table: Table, bytes: &[u8]) -> Checked
     Checked { good, active }
 }
 
-// The table that the bytes give, with the verdict on them.
+// The table that bytes of the newest form give, with the verdict on them.
 fn judged(bytes: &[u8]) -> Reading
+    requires { ⌜ length (now bytes) ≡ slotCount * recordLength ⌝ }
     ensures { λ r. ⌜ r ≡ judgedImage slotCount (now (bytes .entry)) ⌝ }
 {
-    if bytes.len() != IMAGE {
-        return refused(BAD_IMAGE);
-    }
     let decoded = decode(bytes);
     let table = decoded.table;
     let checked = check_placed(table, bytes);
@@ -206,13 +233,35 @@ fn judged(bytes: &[u8]) -> Reading
     }
 }
 
-// The table of an image. Refused by 7 where its length is another, then by 2 where it is not the image of a good table.
+// The table of an image of any form. Refused by 7 where its length is no form's, then by 2 where it is not the image of a good table.
 pub fn read(bytes: &[u8]) -> Reading
     ensures { λ r. ⌜ r ≡ readImage slotCount (now (bytes .entry)) ⌝ }
 {
-    let reading = judged(bytes);
+    if FORMS <= form_for(bytes.len()) {
+        return refused(BAD_IMAGE);
+    }
+    let mut newest = [0u8; IMAGE];
+    reform(bytes, &mut newest);
+    let reading = judged(&newest);
     if reading.verdict == BAD_TABLE {
         return refused(BAD_TABLE);
     }
     reading
+}
+
+// An image of any form written in the form that has as many bytes as `out`: a reading and a writing, but that both lengths are asked first.
+// Refused by 7, 2 or 11: no byte is written then.
+pub fn convert(image: &[u8], out: &mut [u8]) -> u8
+    ensures verdict { λ r. ⌜ r ≡ convertVerdict slotCount (now (image .entry)) (length (now (out .entry))) ⌝ }
+    ensures bytes { λ r. ⌜ now (out .exit) ≡ converted slotCount (now (image .entry)) (now (out .entry)) ⌝ }
+{
+    if FORMS <= form_for(out.len()) {
+        return BAD_IMAGE;
+    }
+    let reading = read(image);
+    if ACCEPTED < reading.verdict {
+        return reading.verdict;
+    }
+    let table = reading.table;
+    write(table, &mut *out)
 }

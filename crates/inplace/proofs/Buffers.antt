@@ -1,31 +1,25 @@
 -- A buffer of a slot, read from the image.
-use Prim.Native.Nat.{ℕ, zero, suc, _+_, _*_, _≤_, _<_}
-use mathlib.Core.Path.{_≡_, refl, sym, ap₂, _∙_}
+use Prim.Native.Nat.{ℕ, _+_, _*_, _≤_, _<_}
+use mathlib.Core.Path.{_≡_, sym, _∙_}
 use mathlib.Core.Bool.{Bool}
 use mathlib.Core.List.{List}
-use native.Mathlib.Nat.{add-zero, suc-add, add-suc, add-assoc}
+use native.Mathlib.Nat.{add-assoc}
 use native.Mathlib.Omega.{arith}
 use lib.ListN.{getD}
 use Rattle.task.specs.Task.{messageOf, replyOf}
 use Rattle.kernel.specs.declared.table.Table.{Table}
 use Rattle.kernel.specs.Table.{taskAt}
 use Rattle.rules.specs.Facts.{nobody}
-use Rattle.image.specs.Bytes.{numberIn, recordAt}
+use Rattle.image.specs.Bytes.{recordAt}
 use Rattle.image.specs.Record.{recordLength, atAwaited, atMessage, atReply, bufferIn}
 use Rattle.records.specs.Records.{closedUp}
 use Rattle.records.specs.Stage.{Stage}
 use Rattle.image.proofs.Bytes.{byte-in}
+use Rattle.records.proofs.Numbers.{number-same}
 use Rattle.records.proofs.Tasks.{message-read, reply-read}
 use Rattle.records.proofs.Heads.{closed-byte}
 
--- where the bytes are the same, a number is
-number-same : (b b′ : List ℕ) (i j k : ℕ) → ((d : ℕ) → d < k → getD b (i + d) 0 ≡ getD b′ (j + d) 0) → numberIn b i k ≡ numberIn b′ j k
-number-same b b′ i j zero same = refl
-number-same b b′ i j (suc k) same =
-    let first : getD b i 0 ≡ getD b′ j 0 = rw (add-zero i, add-zero j) at (same 0 (omega arith)) in
-    ap₂ (λ (x y : ℕ). x + 256 * y) first
-    (number-same b b′ (suc i) (suc j) k (λ d h. rw (suc-add i d, suc-add j d, ← add-suc i d, ← add-suc j d) (same (suc d) (omega arith))))
-
+-- where the bytes are the same, a buffer is
 buffer-same : (b b′ : List ℕ) (i j : ℕ) → ((d : ℕ) → d < 4 → getD b (i + d) 0 ≡ getD b′ (j + d) 0) → bufferIn b i ≡ bufferIn b′ j
 buffer-same b b′ i j same =
     let start = number-same b b′ i j 2 (λ d h. same d (omega arith)) in

@@ -7,8 +7,8 @@ use native.Mathlib.Numerals.{add-one}
 use native.Mathlib.Omega.{arith}
 use lib.ListN.{getD}
 use Rattle.queue.specs.Choose.{choose}
-use Rattle.image.specs.Bytes.{numberIn, recordAt}
-use Rattle.image.specs.Record.{recordLength, atState, atPlace, atWord, byteIn, byteAt}
+use Rattle.image.specs.Bytes.{numberIn}
+use Rattle.image.specs.Record.{recordLength, atState, atPlace, byteIn, byteAt}
 use Rattle.records.specs.Records.{leadsAt, upAt, closedUp, headOf}
 use Rattle.image.proofs.Bytes.{byte-in}
 use Rattle.records.proofs.Records.{closed-later}
@@ -16,17 +16,6 @@ use Rattle.records.proofs.Records.{closed-later}
 -- two bytes are a number
 pub short-bytes : (b : List ℕ) (at next : ℕ) → next ≡ suc at → getD b at 0 + 256 * getD b next 0 ≡ numberIn b at 2
 short-bytes b at next e = rw e (omega arith)
-
--- so are the four of a record's word
-pub word-bytes : (b : List ℕ) (s : ℕ)
-    → let at = s * recordLength + atWord in
-    getD b at 0 + 256 * (getD b (at + 1) 0 + 256 * (getD b (at + 2) 0 + 256 * getD b (at + 3) 0))
-    ≡ numberIn (recordAt recordLength b s) atWord 4
-word-bytes b s =
-    let at = s * recordLength + atWord in
-    let byte : (j k : ℕ) → j < recordLength → k ≡ s * recordLength + j → byteIn (recordAt recordLength b s) j ≡ getD b k 0 =
-    λ j k l e. byte-in b s j l ∙ ap (λ (k : ℕ). getD b k 0) (sym e) in
-    omega (arith, byte 16 at (omega arith) (omega arith), byte 17 (at + 1) (omega arith) (omega arith), byte 18 (at + 2) (omega arith) (omega arith), byte 19 (at + 3) (omega arith) (omega arith))
 
 -- a slot that was not reached leads where it led
 closed-leads : (code at key : ℕ) → at < recordLength → (b : List ℕ) (s : ℕ)

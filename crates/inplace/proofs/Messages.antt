@@ -15,12 +15,12 @@ use Rattle.queue.proofs.Below.{by-test, both-true, true-both}
 use Rattle.tid.specs.Tid.{slotOf, tidOf, slotNamed}
 use Rattle.tid.proofs.Trips.{slot-of-mark}
 use Rattle.task.specs.declared.task.Buffer.{Buffer}
-use Rattle.task.specs.declared.task.Result.the-variants.{Nothing, Fault}
-use Rattle.task.specs.declared.task.State.the-variants.{SendBlocked, ReceiveBlocked, ReplyBlocked}
+use Rattle.task.specs.declared.task.Result.the-variants.{Nothing, Value, Fault}
+use Rattle.task.specs.declared.task.State.the-variants.{Ready, SendBlocked, ReceiveBlocked, ReplyBlocked}
 use Rattle.task.specs.Task.{noTask, goodBuffer, messageOf, replyOf, isAlive, isSendBlocked}
 use Rattle.task.specs.Standing.{queueOf}
 use Rattle.kernel.specs.Table.{taskAt, queueAt}
-use Rattle.kernel.specs.Kinds.{alive, send, receive, reply}
+use Rattle.kernel.specs.Kinds.{delivery, isCut, alive, send, receive, reply}
 use Rattle.rules.specs.Good.{goodState}
 use Rattle.rules.proofs.States.{state-facts, facts-state}
 use Rattle.kept.proofs.Tasks.{codeAt, same-code, unquiet, apart, value-good, buffer-small}
@@ -34,10 +34,39 @@ use Rattle.records.specs.Stage.{leftBytes}
 use Rattle.records.proofs.Tasks.{byte-code}
 use Rattle.records.proofs.Heads.{sender-headed}
 use Rattle.records.proofs.Leaves.{receives-stage}
-use Rattle.inplace.specs.Ends.{aliveAt, Begins, resumesAt, stopsAt, Ends, deliversAt, receivesAt, repliesAt, receivesAt, repliesAt}
+use Rattle.inplace.specs.declared.kinds.Turn.{Turn}
+use Rattle.inplace.specs.Ends.{aliveAt, Begins, resumesAt, stopsAt, Ends, deliversAt}
 use Rattle.inplace.proofs.Buffers.{message-at, reply-at, closed-buffer}
 use Rattle.inplace.proofs.Ways.{nobody-woke, goes-on-ends, halts-ends, queues-ends}
 use Rattle.inplace.proofs.Requests.{caller-used, resumes-ends, stops-ends, one-wakes}
+
+-- the turn of a Receive from slot s, whose message is there: the caller is told of it
+abbrev receivesAt : ℕ → ℕ → ℕ → Buffer → ℕ → Buffer → Turn
+receivesAt n used c b s sent =
+    let copy = delivery s sent c b in
+    record {
+      used = used;
+      woken = n;
+      told = Nothing;
+      state = Ready;
+      place = 0;
+      result = Value (tidOf s) (isCut copy) (sent .len);
+      effect = copy;
+    }
+
+-- that of a Reply to slot s, which waits for it: both are told of it
+abbrev repliesAt : ℕ → ℕ → Buffer → ℕ → Buffer → Turn
+repliesAt used c b s into =
+    let copy = delivery c b s into in
+    record {
+      used = used;
+      woken = s;
+      told = Value 0 (isCut copy) (b .len);
+      state = Ready;
+      place = 0;
+      result = Value 0 (isCut copy) (min (b .len) (into .len));
+      effect = copy;
+    }
 
 module _ {n used c : ℕ} {b count : List ℕ} (g : Begins n used c b count) (small : n < 255) (running : c < n) where
   -- The slot of a tid, as the code finds it.

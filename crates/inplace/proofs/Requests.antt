@@ -99,8 +99,8 @@ module _ {n used c : ℕ} {b count : List ℕ} (g : Begins n used c b count) (sm
       small (g .near) (g .runs) told l (apart (tableOf n b) 1 code (g .runs running) is (λ e. other (sym e))) good
 
   -- Create.
-  module _ (p : ℕ) where
-    pub create-unknown : priorities ≤ p → Ends n c (create (tableOf n b) c p) (resumesAt n used (Fault 1)) b count
+  module _ (p entry : ℕ) where
+    pub create-unknown : priorities ≤ p → Ends n c (create (tableOf n b) c p entry) (resumesAt n used (Fault 1)) b count
     unfolding create
     create-unknown past = rw (le-leb priorities p past) (resumes-ends (Fault 1) refl)
 
@@ -108,20 +108,20 @@ module _ {n used c : ℕ} {b count : List ℕ} (g : Begins n used c b count) (sm
       first-free : usedSlots (tableOf n b) ≡ used
       first-free = used-slots (g .stage .rules)
 
-      pub create-full : n ≤ used → Ends n c (create (tableOf n b) c p) (resumesAt n used (Fault 2)) b count
+      pub create-full : n ≤ used → Ends n c (create (tableOf n b) c p entry) (resumesAt n used (Fault 2)) b count
       unfolding create
       create-full full =
           rw (lt-leb priorities p low, first-free, le-leb (slots (tableOf n b)) used (omega (arith, g .stage .rules .size))) (resumes-ends (Fault 2) refl)
 
       -- the new task is woken, and the caller goes on behind it
-      pub create-adds : used < n → Ends n c (create (tableOf n b) c p)
+      pub create-adds : used < n → Ends n c (create (tableOf n b) c p entry)
           (record { used = used + 1; woken = used; told = Nothing; state = Ready; place = 0; result = number (tidOf used); effect = Keep })
-          (withRecord b used (fields (newTask p c) (getD count p 0))) count
+          (withRecord b used (fields (newTask p entry c) (getD count p 0))) count
       unfolding create
       create-adds room =
-          let x = newTask p c in
+          let x = newTask p entry c in
           let other : c ≢ used = λ e. omega (arith, caller-used) in
-          let added = rw first-free at (adds-stage (g .stage) p c room low caller-used) in
+          let added = rw first-free at (adds-stage (g .stage) p entry c room low caller-used) in
           rw (lt-leb priorities p low, first-free, lt-leb (slots (tableOf n b)) used (omega (arith, g .stage .rules .size)))
           (goes-on-ends
           (slot-woke added small (g .near) (λ _. same-code (getD-set-other (tableOf n b .tasks) used c x noTask other) (g .runs running)) Nothing (omega arith) other refl)

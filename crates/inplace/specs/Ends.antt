@@ -1,5 +1,5 @@
 -- What the parts of an entry in place promise: a kind leaves a turn, and the end of every entry makes a decision of it.
-use Prim.Native.Nat.{ℕ, _*_, _≤_, _<_, min}
+use Prim.Native.Nat.{ℕ, _*_, _≤_, _<_}
 use mathlib.Core.Path.{_≡_}
 use mathlib.Core.Bool.{true, _&&_}
 use mathlib.Core.List.{List}
@@ -110,34 +110,6 @@ deliversAt used c m r s into =
       state = ReplyBlocked r;
       place = 0;
       result = Nothing;
-      effect = copy;
-    }
-
--- that of a Receive from slot s, whose message is there: the caller is told of it
-abbrev pub receivesAt : ℕ → ℕ → ℕ → Buffer → ℕ → Buffer → Turn
-receivesAt n used c b s sent =
-    let copy = delivery s sent c b in
-    record {
-      used = used;
-      woken = n;
-      told = Nothing;
-      state = Ready;
-      place = 0;
-      result = Value (tidOf s) (isCut copy) (sent .len);
-      effect = copy;
-    }
-
--- that of a Reply to slot s, which waits for it: both are told of it
-abbrev pub repliesAt : ℕ → ℕ → Buffer → ℕ → Buffer → Turn
-repliesAt used c b s into =
-    let copy = delivery c b s into in
-    record {
-      used = used;
-      woken = s;
-      told = Value 0 (isCut copy) (b .len);
-      state = Ready;
-      place = 0;
-      result = Value 0 (isCut copy) (min (b .len) (into .len));
       effect = copy;
     }
 

@@ -99,9 +99,16 @@ fn stops(used: usize, state: State, place: u8) -> Turn
     }
 }
 
-fn create(image: &mut [u8], used: usize, count: &[u8; QUEUES], c: usize, priority: u32) -> Turn
+fn create(
+    image: &mut [u8],
+    used: usize,
+    count: &[u8; QUEUES],
+    c: usize,
+    priority: u32,
+    entry: u32,
+) -> Turn
     requires { ⌜ (c < slotCount) × Begins slotCount used c (now image) (now count) ⌝ }
-    ensures { λ r. ⌜ Ends slotCount c (Kinds.create (tableOf slotCount (now (image .entry))) c priority) r (now (image .exit)) (now (count .entry)) ⌝ }
+    ensures { λ r. ⌜ Ends slotCount c (Kinds.create (tableOf slotCount (now (image .entry))) c priority entry) r (now (image .exit)) (now (count .entry)) ⌝ }
 {
     if PRIORITIES <= priority as usize {
         return resumes(used, Result::Fault(1));
@@ -113,6 +120,7 @@ fn create(image: &mut [u8], used: usize, count: &[u8; QUEUES], c: usize, priorit
         state: State::Ready,
         priority: priority as u8,
         parent: tid_of(c),
+        entry,
         result: Result::Nothing,
     };
     put(
@@ -369,7 +377,7 @@ pub(crate) fn turned(
 {
     let kind = r.kind;
     match kind {
-        CREATE => create(&mut *image, used, &*count, c, r.arg0),
+        CREATE => create(&mut *image, used, &*count, c, r.arg0, r.arg1),
         MY_TID => resumes(used, number(tid_of(c) as u32)),
         MY_PARENT_TID => my_parent_tid(&*image, used, c),
         YIELD => resumes(used, number(0)),

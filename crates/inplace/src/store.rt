@@ -4,11 +4,12 @@ ghost use Prim.Native.Nat.{_+_, _*_, _≤_, _<_};
 ghost use lib.ListN.{length};
 ghost use lib.Seq.{paste};
 ghost use Rattle.tid.specs.Sizes.{slotCount};
-ghost use Rattle.image.specs.Bytes.{recordAt};
+ghost use Rattle.image.specs.Bytes.{numberIn, recordAt};
 ghost use Rattle.image.specs.Record.{recordLength, bufferIn, resultPartsIn, resultOf};
 ghost use Rattle.records.specs.Stage.{leftBytes};
 ghost use Rattle.inplace.specs.Ends.{Up, Closes};
 use image::fields::CUT;
+use image::fields::ENTRY;
 use image::fields::FROM;
 use image::fields::PARENT;
 use image::fields::PLACE;
@@ -39,6 +40,14 @@ pub(crate) fn buffer_at(image: &[u8], at: usize) -> Buffer
     }
 }
 
+// The word at an offset of the image.
+fn word_at(image: &[u8], at: usize) -> u32
+    requires { ⌜ at + 4 ≤ length (now image) ⌝ }
+    ensures { λ r. ⌜ r ≡ numberIn (now (image .entry)) at 4 ⌝ }
+{
+    word(image[at], image[at + 1], image[at + 2], image[at + 3])
+}
+
 // The result that a record holds.
 pub(crate) fn result_at(image: &[u8], s: usize) -> Result
     requires { ⌜ (s < slotCount) × (length (now image) ≡ slotCount * recordLength) ⌝ }
@@ -49,12 +58,7 @@ pub(crate) fn result_at(image: &[u8], s: usize) -> Result
         kind: image[r + RESULT],
         from: image[r + FROM],
         cut: image[r + CUT],
-        word: word(
-            image[r + WORD],
-            image[r + WORD + 1],
-            image[r + WORD + 2],
-            image[r + WORD + 3],
-        ),
+        word: word_at(image, r + WORD),
     })
 }
 
@@ -70,7 +74,7 @@ pub(crate) fn put(image: &mut [u8], at: usize, r: [u8; RECORD])
     }
 }
 
-// A record written anew: its priority and its parent stay.
+// A record written anew: its priority, its parent and its entry number stay.
 pub(crate) fn leave(image: &mut [u8], s: usize, state: State, result: Result, place: u8)
     requires { ⌜ (s < slotCount) × (length (now image) ≡ slotCount * recordLength) ⌝ }
     ensures { λ x. ⌜ now (image .exit) ≡ leftBytes (now (image .entry)) s state result place ⌝ }
@@ -80,6 +84,7 @@ pub(crate) fn leave(image: &mut [u8], s: usize, state: State, result: Result, pl
         state,
         priority: image[at + PRIORITY],
         parent: image[at + PARENT],
+        entry: word_at(&*image, at + ENTRY),
         result,
     };
     put(&mut *image, at, fields_of(task, place));

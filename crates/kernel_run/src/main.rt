@@ -23,6 +23,9 @@ use tid::sizes::SLOTS;
 // The first task's priority.
 const FIRST: u32 = 16;
 
+// The first task's entry number: no code is started by it here.
+const FIRST_ENTRY: u32 = 0;
+
 // As many records as are read at a time.
 const RECORDS: usize = 100;
 
@@ -125,5 +128,5 @@ fn run(first: Block, areas: &mut [u8], wide: bool)
 fn main() {
     let mut areas = [0u8; SLOTS * AREA];
     let wide = 1 < os::arg_count();
-    run(fresh_block(FIRST), &mut areas, wide);
+    run(fresh_block(FIRST, FIRST_ENTRY), &mut areas, wide);
 }

@@ -35,7 +35,7 @@ leave = ask exitKind []
 
 -- the two refusals that come before a decision
 refused-first : (p : ℕ)
-    → (step (fresh slotCount p) leave (suc areasBytes) .answer .verdict ≡ badAreas)
+    → (step (fresh slotCount p 0) leave (suc areasBytes) .answer .verdict ≡ badAreas)
     × (step (unusedTable slotCount) leave areasBytes .answer .verdict ≡ badTable)
 unfolding step
 refused-first p = (refl, rw (unused-broken slotCount))
@@ -43,10 +43,10 @@ refused-first p = (refl, rw (unused-broken slotCount))
 module _ (p : ℕ) (low : p < priorities) where
   -- the table of most cases
   abbrev first : Table
-  first = fresh slotCount p
+  first = fresh slotCount p 0
 
   first-good : Good slotCount first
-  first-good = fresh-good slotCount p (omega arith) low
+  first-good = fresh-good slotCount p 0 (omega arith) low
 
   idle-good : Good slotCount (idle p)
   unfolding idle

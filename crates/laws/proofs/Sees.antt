@@ -23,6 +23,7 @@ use Rattle.task.proofs.Tests.{chosen, clash}
 use Rattle.kernel.specs.declared.table.Table.{Table}
 use Rattle.kernel.specs.declared.table.Request.{Request}
 use Rattle.kernel.specs.declared.table.Turn.{Turn}
+use Rattle.kernel.specs.declared.table.Decision.{Decision}
 use Rattle.kernel.specs.Numbers.{ownWriteKind, accepted}
 use Rattle.kernel.specs.Table.{slots, taskAt, activeSlot, usedSlots}
 use Rattle.kernel.specs.Moves.{wokenRow, rejoined}
@@ -36,14 +37,14 @@ use Rattle.kept.proofs.Tasks.{codeAt}
 use Rattle.kept.proofs.Moves.{slot-used, ready-head}
 use Rattle.step.specs.Step.{step, after}
 use Rattle.step.proofs.Steps.{step-decides}
-use Rattle.laws.specs.View.{isEntry, othersLeft, left, Ends, Stays, Steps}
+use Rattle.laws.specs.View.{isEntry, othersLeft, left, Ends, runs, waits, Stays, Steps}
 use Rattle.laws.proofs.Effects.{slots-woken, slots-rejoined}
 use Rattle.laws.proofs.SameRuns.{length-after}
 use Rattle.laws.proofs.Steps.{step-sound}
 use Rattle.laws.proofs.Landing.{active-code}
 use Rattle.laws.proofs.View.{Heads, IsReady, heads-woken, heads-rejoined, row-seen, rejoined-here, rejoined-other, dispatch-seen, AllTold, dispatch-tells}
 use Rattle.laws.proofs.Concerns.{fails, left-alone}
-use Rattle.laws.proofs.Turns.{Leaves, turn-leaves}
+use Rattle.laws.proofs.Turns.{New, none-new, Leaves, turn-leaves}
 
 pub is-ready : (x : State) → isReady x ≡ true → x ≡ Ready
 is-ready Unused e = absurd (false≢true e)
@@ -137,27 +138,40 @@ module _ {n : ℕ} {t : Table} (good : Good n t) (r : Request) (enters : Enters 
       (λ here ready.
       rw (slot-of-mark a) (ap (λ (x : Task). x .state) (ended-own (omega (arith, woke-size))) ∙ is-ready (u .state) ready))
 
-  pub entry-sees : (s : ℕ) → s < usedSlots t → Ends s (left t r s) (settled a u)
+  ended-seen : (s : ℕ) → s < n → Ends s (taskAt ended s) (settled a u)
   unfolding settled
-  entry-sees s l =
+  ended-seen s below =
       let size = slots-rejoined woke a (u .state) (u .result) in
-      subst (λ (x : Task). Ends s x (settled a u)) (ended-left s l)
-      (dispatch-seen s (u .effect) ended (omega (arith, woke-size, good .rules .tasks .fits, good .rules .size)) ended-heads)
+      dispatch-seen s (u .effect) ended (omega (arith, woke-size, good .rules .size)) ended-heads
 
-  -- who was not used holds nothing, even if it is made now
-  ended-unused : (s : ℕ) → usedSlots t ≤ s → taskAt ended s .result ≡ Nothing
+  pub entry-sees : (s : ℕ) → s < usedSlots t → Ends s (left t r s) (settled a u)
+  entry-sees s l = subst (λ (x : Task). Ends s x (settled a u)) (ended-left s l) (ended-seen s (omega (arith, good .rules .tasks .fits)))
+
+  -- a slot that was not used holds nothing, or the task that is made
+  ended-unused : (s : ℕ) → usedSlots t ≤ s → New r (taskAt ended s)
   ended-unused s past =
       let size : slots ended ≡ n = slots-rejoined woke a (u .state) (u .result) ∙ woke-size ∙ good .rules .size in
       elim (decLt s n) [
         | yes below ↦
             let used : a < slots t → a < usedSlots t = λ here. slot-used (good .rules) (rw (active-code t here)) in
             let other : s ≢ a = λ e. omega (arith, used (omega (arith, good .rules .size))) in
-            ap (λ (x : Task). x .result)
-            (rejoined-other woke a (u .state) (u .result) s other
-            ∙ row-seen (u .table) (u .told) s (leaves .row) (leaves .size ∙ good .rules .size) below)
-            ∙ leaves .unused s past
-        | no out ↦ ap (λ (x : Task). x .result) (List·getD-eq-default (ended .tasks) noTask (omega arith))
+            subst (New r)
+            (sym (rejoined-other woke a (u .state) (u .result) s other
+            ∙ row-seen (u .table) (u .told) s (leaves .row) (leaves .size ∙ good .rules .size) below))
+            (leaves .unused s past)
+        | no out ↦
+            let outside : slots ended ≤ s = omega arith in
+            rw (List·getD-eq-default (ended .tasks) noTask outside) (none-new r)
       ]
+
+  pub entry-makes : (s : ℕ) → usedSlots t ≤ s → s < n → New r (taskAt (settled a u .table) s)
+  entry-makes s past below = go (ended-seen s below) (ended-unused s past)
+    where
+      -- a task that is made may run at once
+      go : {x : Task} {d : Decision} → Ends s x d → New r x → New r (taskAt (d .table) s)
+      go (runs ready next result task) new =
+          rw task (record { result = refl; entry = rw ready at (new .entry); by = λ _. new .by (rw ready) })
+      go (waits next task) new = rw task new
 
   -- what holds of nothing, and of the result that each used task is left with, holds of all that an entry tells
   pub entry-tells : (P : ℕ → Result → Type 0) → ((s : ℕ) → P s Nothing) → ((s : ℕ) → s < usedSlots t → P s (left t r s .result))
@@ -167,7 +181,7 @@ module _ {n : ℕ} {t : Table} (good : Good n t) (r : Request) (enters : Enters 
       dispatch-tells P none (u .effect) ended
       (λ s. elim (decLt s (usedSlots t)) [
         | yes l ↦ rw (ended-left s l) (used s l)
-        | no past ↦ rw (ended-unused s (omega arith)) (none s)
+        | no past ↦ rw (ended-unused s (omega arith) .result) (none s)
       ])
 
 -- WHICH STEPS ARE ENTRIES

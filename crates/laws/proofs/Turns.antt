@@ -25,7 +25,7 @@ use Rattle.task.specs.declared.task.State.{State}
 use Rattle.task.specs.declared.task.State.the-variants.{Ready}
 use Rattle.task.specs.declared.task.Task.{Task}
 use Rattle.task.specs.Standing.{queueOf}
-use Rattle.task.specs.Task.{noTask, goodBuffer, awaited, isSendBlocked, isReplyBlocked, taskAs}
+use Rattle.task.specs.Task.{noTask, entryOf, isUsed, goodBuffer, awaited, isSendBlocked, isReplyBlocked, taskAs}
 use Rattle.task.proofs.Stands.{stands-in}
 use Rattle.task.proofs.Tests.{chosen, clash}
 use Rattle.kernel.specs.declared.table.Table.{Table}
@@ -45,12 +45,20 @@ use Rattle.kept.proofs.Tasks.{codeAt, apart, free}
 use Rattle.kept.proofs.Moves.{slot-used, stander-used, sender-head}
 use Rattle.kept.proofs.Entries.{alive-used}
 use Rattle.laws.specs.View.{othersLeft}
-use Rattle.laws.proofs.Lists.{at-set}
 use Rattle.laws.proofs.Landing.{active-code, known-state, alive-at}
 use Rattle.laws.proofs.Concerns.{Sent, Received, Replied, Signalled, left-sent, left-received, left-replied, left-signalled, left-turned, left-aside}
 
+-- what may stand in a slot that was not used before: no result, and a task only by a Create, with the entry number that it gives
+pub record New (r : Request) (x : Task) : Type 0 where
+  pub result : x .result ≡ Nothing
+  pub entry : x .entry ≡ choose (isUsed (x .state)) (entryOf (r .arg1)) 0
+  pub by : isUsed (x .state) ≡ true → r .kind ≡ createKind
+
+pub none-new : (r : Request) → New r noTask
+none-new r = record { result = refl; entry = refl; by = λ e. clash e refl }
+
 -- the turn wakes others than the caller, and leaves them, once they are woken, as `othersLeft` says; it leaves the caller and the ready queues,
--- and a task that it makes holds no result
+-- and the slots that are not used but for a task that it makes
 pub record Leaves (n : ℕ) (t : Table) (r : Request) (u : Turn) : Type 0 where
   pub wakes : ℕ → Bool
   pub row : RowFacts n wakes (u .woken)
@@ -61,18 +69,14 @@ pub record Leaves (n : ℕ) (t : Table) (r : Request) (u : Turn) : Type 0 where
   pub others : (s : ℕ) → s < usedSlots t → s ≢ activeSlot t
       → choose (wakes s) (taskAs Ready (u .told) (taskAt (u .table) s)) (taskAt (u .table) s) ≡ othersLeft t r s
   pub unused : (s : ℕ) → usedSlots t ≤ s
-      → choose (wakes s) (taskAs Ready (u .told) (taskAt (u .table) s)) (taskAt (u .table) s) .result ≡ Nothing
+      → New r (choose (wakes s) (taskAs Ready (u .told) (taskAt (u .table) s)) (taskAt (u .table) s))
 
 module _ {n : ℕ} {t : Table} (good : Good n t) (r : Request) where
   abbrev a : ℕ
   a = activeSlot t
 
-  abbrev HoldsNothing : Task → Type 0
-  HoldsNothing x = x .result ≡ Nothing
-
-  -- so does a slot that is not used
-  empty : (s : ℕ) → usedSlots t ≤ s → HoldsNothing (taskAt t s)
-  empty s past = rw (good .rules .tasks .unused s past)
+  empty : (s : ℕ) → usedSlots t ≤ s → New r (taskAt t s)
+  empty s past = rw (good .rules .tasks .unused s past) (none-new r)
 
   -- nobody is woken, and no other is concerned
   aside : {u : Turn} → u .woken ≡ emptyRow places → u .table .tasks ≡ t .tasks
@@ -107,7 +111,7 @@ module _ {n : ℕ} {t : Table} (good : Good n t) (r : Request) where
     active : codeAt t a ≡ 1
     active = active-code t runs
 
-    create-leaves : r .kind ≡ createKind → (p : ℕ) → Leaves n t r (create t a p)
+    create-leaves : r .kind ≡ createKind → (p : ℕ) → Leaves n t r (create t a p (r .arg1))
     unfolding create
     create-leaves kind p =
         let f = good .rules in
@@ -127,7 +131,11 @@ module _ {n : ℕ} {t : Table} (good : Good n t) (r : Request) where
           others = λ s l _.
               rw (ne-eqb s u (λ e. omega arith))
               (getD-set-other (t .tasks) u s _ noTask (λ e. omega arith) ∙ sym (same s));
-          unused = λ s past. chosen HoldsNothing (eqb s u) (λ _. refl) (λ _. at-set HoldsNothing (t .tasks) u s _ noTask refl (empty s past));
+          unused = λ s past. chosen (New r) (eqb s u)
+              (λ same.
+              rw (eqb-true s u same, getD-set-same (t .tasks) u _ noTask (leb-false (slots t) u room))
+              (record { result = refl; entry = refl; by = λ _. kind }))
+              (λ other. rw (getD-set-other (t .tasks) u s _ noTask (eqb-false s u other)) (empty s past));
         }))
 
     send-leaves : r .kind ≡ sendKind → Leaves n t r (send t a (r .arg0) (buffer (r .arg1) (r .arg2)) (buffer (r .arg3) (r .arg4)))
@@ -209,7 +217,7 @@ module _ {n : ℕ} {t : Table} (good : Good n t) (r : Request) where
                 getD-set-other (t .tasks) x s _ noTask other
                 ∙ sym (spared s (λ f. other (sym (ap slotOf (f .head) ∙ slot-of-mark s))))
           ];
-          unused = λ s past. at-set HoldsNothing (t .tasks) x s _ noTask refl (empty s past);
+          unused = λ s past. rw (getD-set-other (t .tasks) x s _ noTask (λ e. omega (arith, slot-used f {s = x} (rw code)))) (empty s past);
         }))
 
     reply-leaves : r .kind ≡ replyKind → Leaves n t r (reply t a (r .arg0) (buffer (r .arg1) (r .arg2)))

@@ -103,7 +103,7 @@ module _ (t : Table) (q : Queue) (o : Result) (s : ℕ) where
       woken-other (wokenUpTo t q o i) (placeAt q i) o (λ e. out i (omega arith) (sym e)) ∙ row-out out i (omega arith)
 
   module _ (below : s < slots t) where
-    -- one who is woken keeps its priority and its parent
+    -- one who is woken keeps its priority, its parent and its entry number
     pub woken-as : (i : ℕ) → taskAs Ready o (taskAt (wokenUpTo t q o i) s) ≡ taskAs Ready o (taskAt t s)
     unfolding wokenUpTo
     woken-as zero = refl

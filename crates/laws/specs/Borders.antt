@@ -27,12 +27,12 @@ case t r len = record { table = t; request = r; areas = len }
 
 -- a kernel whose one task, of priority p, has exited
 unfoldable pub idle : ℕ → Table
-idle p = step (fresh slotCount p) (ask exitKind []) areasBytes .table
+idle p = step (fresh slotCount p 0) (ask exitKind []) areasBytes .table
 
 -- areas with a byte too many; a table that breaks a rule; no kind; nobody active; no event; a write past the area
 unfoldable pub refusedCases : ℕ → List Case
 refusedCases p =
-    let t = fresh slotCount p in
+    let t = fresh slotCount p 0 in
     case t (ask exitKind []) (suc areasBytes)
     ∷ case (unusedTable slotCount) (ask exitKind []) areasBytes
     ∷ case t (ask 0 []) areasBytes

@@ -88,12 +88,13 @@ pub write-size : (at byte : ℕ) → at < 2 ^ 64 → length (effectText (Put at 
 unfolding effectText
 write-size at byte h = omega (arith, decimal-size 19 at (omega arith))
 
-pub task-size : (x : Task) → stateCode (x .state) < 256 → x .priority < 256 → length (taskText x) ≤ 8
-task-size x h l =
-    simp length-append (omega (arith, decimal-size 2 (stateCode (x .state)) (omega arith), decimal-size 2 (x .priority) (omega arith)))
+pub task-size : (x : Task) → stateCode (x .state) < 256 → x .priority < 256 → x .entry < 2 ^ 32 → length (taskText x) ≤ 19
+task-size x h l g =
+    let state = decimal-size 2 (stateCode (x .state)) (omega arith) in
+    simp length-append (omega (arith, state, decimal-size 2 (x .priority) (omega arith), decimal-size 9 (x .entry) (omega arith)))
 
 -- one task more
-pub tasks-more : (t : Table) (k : ℕ) → length (tasksText t k) ≤ 8 * k → length (taskText (taskAt t k)) ≤ 8 → length (tasksText t (k + 1)) ≤ 8 * (k + 1)
+pub tasks-more : (t : Table) (k : ℕ) → length (tasksText t k) ≤ 19 * k → length (taskText (taskAt t k)) ≤ 19 → length (tasksText t (k + 1)) ≤ 19 * (k + 1)
 unfolding tasksText
 tasks-more t k h l =
     rw (add-one, length-append (tasksText t k) (taskText (taskAt t k))) (omega arith)

@@ -13,7 +13,7 @@ use Rattle.step.specs.Run.{run, lastOf}
 use Rattle.image.specs.Call.{requestLength}
 use Rattle.lines.specs.declared.block.Block.{Block}
 use Rattle.lines.specs.Block.{Standing, Ran, linesFrom, numberAfter, requestsIn, requests, freshBlock, ran, endOf, showed}
-use Rattle.lines.specs.Printed.{Whole, firstPriority, firstAreas, stepsOf, linesOf, Reached, printed, PrintedIsRun}
+use Rattle.lines.specs.Printed.{Whole, firstPriority, firstEntry, firstAreas, stepsOf, linesOf, Reached, printed, PrintedIsRun}
 use Rattle.lines.proofs.Onward.{from, joined, ran-append}
 
 -- the requests of two rows of bytes, of which the first are whole records
@@ -68,22 +68,22 @@ printed-ran wide b areas (bytes ∷ blocks) last (more whole rest) =
     ∙ sym (ap (λ (s : Standing). s .text) (showed-append wide b areas bytes (flatten blocks ++ last) whole)))
 
 pub printedIsRun : PrintedIsRun
-printedIsRun wide blocks last whole = printed-ran wide (freshBlock firstPriority) firstAreas blocks last whole
+printedIsRun wide blocks last whole = printed-ran wide (freshBlock firstPriority firstEntry) firstAreas blocks last whole
 
 -- where a program stands that has read nothing
-pub reached-none : Reached [] (freshBlock firstPriority .table) (freshBlock firstPriority .step) firstAreas
+pub reached-none : Reached [] (freshBlock firstPriority firstEntry .table) (freshBlock firstPriority firstEntry .step) firstAreas
 unfolding requestsIn run lastOf numberAfter
 reached-none = record { whole = refl; stands = refl; counted = refl; left = refl }
 
 -- where it stands after an input
 abbrev standing : Bool → List ℕ → Standing
-standing wide input = ran wide (freshBlock firstPriority) firstAreas (requests input)
+standing wide input = ran wide (freshBlock firstPriority firstEntry) firstAreas (requests input)
 
 -- where it stands after bytes more, with their lines
 module _ (wide : Bool) (b : Block) {input areas : List ℕ} (at : Reached input (b .table) (b .step) areas) (bytes : List ℕ) where
-  shown-from : showed wide (freshBlock firstPriority) firstAreas (input ++ bytes) ≡ joined (standing wide input) (showed wide b areas bytes)
+  shown-from : showed wide (freshBlock firstPriority firstEntry) firstAreas (input ++ bytes) ≡ joined (standing wide input) (showed wide b areas bytes)
   shown-from =
-      showed-append wide (freshBlock firstPriority) firstAreas input bytes (at .whole)
+      showed-append wide (freshBlock firstPriority firstEntry) firstAreas input bytes (at .whole)
       ∙ (λ i. joined (standing wide input) (showed wide (record { table = sym (at .stands) i; step = sym (at .counted) i; end = 0 }) (sym (at .left) i) bytes))
 
   pub reached-more : {first b′ : Block} {before out areas′ : List ℕ} → Whole bytes → Ran (showed wide b areas bytes) first before b′ areas′ out

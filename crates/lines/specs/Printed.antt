@@ -17,13 +17,17 @@ use Rattle.lines.specs.Block.{requests, linesFrom, numberAfter, freshBlo
 abbrev pub firstPriority : ℕ
 firstPriority = 16
 
+-- its entry number: such a program starts no code by it
+abbrev pub firstEntry : ℕ
+firstEntry = 0
+
 -- the areas at the start: zeros
 abbrev pub firstAreas : List ℕ
 firstAreas = replicate (slotCount * areaBytes) 0
 
 -- the steps of all whole records of an input, by a fresh kernel
 abbrev pub stepsOf : List ℕ → List Done
-stepsOf input = run (fresh slotCount firstPriority) firstAreas (requests input)
+stepsOf input = run (fresh slotCount firstPriority firstEntry) firstAreas (requests input)
 
 -- the lines of an input, wide or not: one for each step, the first of number 1, and one more where the last record is incomplete
 abbrev pub linesOf : Bool → List ℕ → List ℕ
@@ -36,7 +40,7 @@ Whole bytes = length bytes % requestLength ≡ 0
 -- where a program stands that has read an input of whole records
 pub record Reached (input : List ℕ) (table : Table) (step : ℕ) (areas : List ℕ) : Type 0 where
   pub whole : Whole input
-  pub stands : table ≡ tableAfter (fresh slotCount firstPriority) (stepsOf input)
+  pub stands : table ≡ tableAfter (fresh slotCount firstPriority firstEntry) (stepsOf input)
   pub counted : step ≡ numberAfter 1 (stepsOf input)
   pub left : areas ≡ areasAfter firstAreas (stepsOf input)
 
@@ -53,4 +57,4 @@ printed wide b areas (bytes ∷ rest) =
 abbrev pub PrintedIsRun : Type 0
 PrintedIsRun =
     (wide : Bool) (blocks : List (List ℕ)) (last : List ℕ) → Every Whole blocks
-    → printed wide (freshBlock firstPriority) firstAreas (blocks ++ last ∷ []) ≡ linesOf wide (flatten blocks ++ last)
+    → printed wide (freshBlock firstPriority firstEntry) firstAreas (blocks ++ last ∷ []) ≡ linesOf wide (flatten blocks ++ last)

@@ -32,9 +32,9 @@ effectText (Copy source dest n cut) =
     letterC ∷ space ∷ decimal source ++ space ∷ decimal dest ++ space ∷ decimal n ++ space ∷ decimal (bit cut)
 effectText (Put at byte) = letterW ∷ space ∷ decimal at
 
--- a space, the number of a task's state, and its priority
+-- a space, the number of a task's state, its priority, and its entry number, which has no sign
 abbrev pub taskText : Task → List ℕ
-taskText x = space ∷ decimal (stateCode (x .state)) ++ slash ∷ decimal (x .priority)
+taskText x = space ∷ decimal (stateCode (x .state)) ++ slash ∷ decimal (x .priority) ++ slash ∷ decimal (x .entry)
 
 -- the first k tasks of a table
 unfoldable pub tasksText : Table → ℕ → List ℕ
@@ -49,6 +49,6 @@ wideLineOf step kind d =
     ++ space ∷ semicolon ∷ tasksText (d .table) (usedSlots (d .table))
     ++ newline ∷ []
 
--- no wide line is longer than this: an effect has up to three numbers of 20 digits and one of one, a task two of three
+-- no wide line is longer than this: an effect has up to three numbers of 20 digits and one of one, a task two of three and one of ten
 abbrev pub longestWide : ℕ
-longestWide = longest + 72 + slotCount * 8
+longestWide = longest + 72 + slotCount * 19

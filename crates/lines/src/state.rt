@@ -4,9 +4,9 @@ ghost use mathlib.Core.List.{[], _∷_};
 ghost use lib.ListN.{length};
 ghost use Rattle.kernel.specs.Table.{usedSlots};
 ghost use Rattle.tid.specs.Sizes.{slotCount};
-ghost use Rattle.lines.specs.Text.{Appended};
+ghost use Rattle.lines.specs.Text.{Appended, decimal};
 ghost use Rattle.lines.specs.Line.{space};
-ghost use Rattle.lines.specs.State.{semicolon, effectText, taskText, tasksText, wideLineOf, longestWide};
+ghost use Rattle.lines.specs.State.{slash, semicolon, effectText, taskText, tasksText, wideLineOf, longestWide};
 use crate::shown::LONGEST;
 use crate::shown::put_step;
 use crate::text::put;
@@ -22,7 +22,7 @@ use task::task::Task;
 use tid::sizes::SLOTS;
 
 // No wide line is longer than this.
-pub const LONGEST_WIDE: usize = LONGEST + 72 + SLOTS * 8;
+pub const LONGEST_WIDE: usize = LONGEST + 72 + SLOTS * 19;
 
 fn put_copy(out: &mut [u8], at: usize, source: usize, dest: usize, count: usize, cut: bool) -> usize
     ensures { λ r. ⌜ Appended (now (out .entry)) at (effectText (Effect.Copy source dest count cut)) (now (out .exit)) r ⌝ }
@@ -59,21 +59,28 @@ fn put_effect(out: &mut [u8], at: usize, effect: Effect) -> usize
     }
 }
 
+// A slash, and a number behind it.
+fn put_part(out: &mut [u8], at: usize, n: u64) -> usize
+    ensures { λ r. ⌜ Appended (now (out .entry)) at (slash ∷ decimal n) (now (out .exit)) r ⌝ }
+{
+    let end = put(&mut *out, at, b'/');
+    put_decimal(&mut *out, end, n)
+}
+
 fn put_task(out: &mut [u8], at: usize, task: Task) -> usize
     ensures { λ r. ⌜ Appended (now (out .entry)) at (taskText task) (now (out .exit)) r ⌝ }
-    ensures short { λ r. ⌜ length (taskText task) ≤ 8 ⌝ }
+    ensures short { λ r. ⌜ length (taskText task) ≤ 19 ⌝ }
 {
     let state = task.state;
-    let a = put(&mut *out, at, b' ');
-    let b = put_decimal(&mut *out, a, state_code(state) as u64);
-    let c = put(&mut *out, b, b'/');
-    put_decimal(&mut *out, c, task.priority as u64)
+    let a = put_next(&mut *out, at, state_code(state) as u64);
+    let b = put_part(&mut *out, a, task.priority as u64);
+    put_part(&mut *out, b, task.entry as u64)
 }
 
 // The used slots come first.
 fn put_tasks(out: &mut [u8], at: usize, table: Table) -> usize
     ensures { λ r. ⌜ Appended (now (out .entry)) at (tasksText table (usedSlots table)) (now (out .exit)) r ⌝ }
-    ensures short { λ r. ⌜ length (tasksText table (usedSlots table)) ≤ 8 * slotCount ⌝ }
+    ensures short { λ r. ⌜ length (tasksText table (usedSlots table)) ≤ 19 * slotCount ⌝ }
 {
     let tasks = table.tasks;
     let used = used_slots(tasks);

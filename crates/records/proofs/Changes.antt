@@ -21,7 +21,7 @@ use Rattle.image.proofs.Stands.{stored-in, stored-none}
 use Rattle.records.specs.Records.{Records, withRecord}
 use Rattle.records.specs.Stage.{Stage, leftBytes}
 use Rattle.records.proofs.Records.{with-record}
-use Rattle.records.proofs.Tasks.{byte-priority, byte-parent}
+use Rattle.records.proofs.Tasks.{byte-priority, byte-parent, entry-at}
 
 -- a slot whose task is as it was, and whose place in its queue is
 pub same-record : (n : ℕ) (t t′ : Table) → slots t ≡ n → slots t′ ≡ n → (i : ℕ) → taskAt t′ i ≡ taskAt t i
@@ -48,4 +48,4 @@ one-written r t′ s x place l is-used task stands others =
 pub left-is : {n used a : ℕ} {w : ℕ → Bool} {t : Table} {b count : List ℕ} → Stage n used a w t b count
     → (s : ℕ) → s < n → (st : State) (o : Result) (place : ℕ)
     → leftBytes b s st o place ≡ withRecord b s (fields (taskAs st o (taskAt t s)) place)
-left-is g s h st o place = rw (byte-priority g s h, byte-parent g s h)
+left-is g s h st o place = rw (byte-priority g s h, byte-parent g s h, entry-at g s h)

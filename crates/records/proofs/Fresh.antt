@@ -36,15 +36,15 @@ unused-records n =
       each = λ s h. blank-record n s h ∙ rw (all-same n s noTask);
     }
 
-pub fresh-image : (n p : ℕ) → 1 ≤ n → withRecord (replicate (n * recordLength) 0) 0 (fields (firstTask p) 0) ≡ imageOf (fresh n p)
+pub fresh-image : (n p e : ℕ) → 1 ≤ n → withRecord (replicate (n * recordLength) 0) 0 (fields (firstTask p e) 0) ≡ imageOf (fresh n p e)
 unfolding queueOf
-fresh-image n p h =
+fresh-image n p e h =
     let t = unusedTable n in
-    let t′ = fresh n p in
+    let t′ = fresh n p e in
     let size = length-replicate n noTask in
-    let size′ = length-set (t .tasks) 0 (firstTask p) ∙ size in
-    let here : taskAt t′ 0 ≡ firstTask p = getD-set-same (t .tasks) 0 (firstTask p) noTask (omega arith) in
+    let size′ = length-set (t .tasks) 0 (firstTask p e) ∙ size in
+    let here : taskAt t′ 0 ≡ firstTask p e = getD-set-same (t .tasks) 0 (firstTask p e) noTask (omega arith) in
     records-image n t′ _ size′
-    (one-written (unused-records n) t′ 0 (firstTask p) 0 (omega arith) refl here
+    (one-written (unused-records n) t′ 0 (firstTask p e) 0 (omega arith) refl here
     (stored-none n t′ 0 {k = queuesFor n} size′ (rw here) (omega arith))
-    (λ i l ne. same-record n t t′ size size′ i (getD-set-other (t .tasks) 0 i (firstTask p) noTask ne) (λ k _ _. refl)))
+    (λ i l ne. same-record n t t′ size size′ i (getD-set-other (t .tasks) 0 i (firstTask p e) noTask ne) (λ k _ _. refl)))

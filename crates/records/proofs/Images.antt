@@ -13,7 +13,8 @@ use Rattle.image.specs.Image.{imageOf, tableOf, isImage}
 use Rattle.image.proofs.Bytes.{length-inOrder}
 use Rattle.image.proofs.Record.{length-recordOf}
 use Rattle.image.proofs.Laws.{write-back}
-use Rattle.image.proofs.Exact.{in-order-same, image-is, record-found, records-all}
+use Rattle.image.proofs.Exact.{image-is, record-found}
+use Rattle.image.proofs.Fitted.{in-order-same, records-all}
 use Rattle.records.specs.Records.{Records}
 
 pub image-records : (n : ℕ) (t : Table) → slots t ≡ n → Records n (recordOf t) (imageOf t)
@@ -25,7 +26,7 @@ image-records n t size =
 
 pub records-image : (n : ℕ) (t : Table) (b : List ℕ) → slots t ≡ n → Records n (recordOf t) b → b ≡ imageOf t
 records-image n t b size r =
-    rw (image-is t n size, ← in-order-same (recordAt recordLength b) (recordOf t) n (r .each), records-all n b n)
+    rw (image-is t n size, ← in-order-same (recordAt recordLength b) (recordOf t) n (r .each), records-all recordLength b n)
     (sym (take-all (n * recordLength) b (omega arith)))
 
 -- bytes that are an image are the records of the table that they are read as

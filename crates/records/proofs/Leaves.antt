@@ -1,10 +1,10 @@
 -- The head of a queue leaves it, on the bytes: those behind it move up, and its own record is written anew.
-use Prim.Native.Nat.{ℕ, _-_, _<_}
+use Prim.Native.Nat.{ℕ, _+_, _-_, _*_, _<_}
 use mathlib.Core.Path.{_≡_, refl, sym, ap, _∙_}
 use mathlib.Core.Logic.{_≢_}
 use mathlib.Core.Bool.{true}
 use mathlib.Core.List.{List}
-use native.Mathlib.Nat.{le-refl}
+use native.Mathlib.Nat.{le-refl, add-assoc}
 use native.Mathlib.Omega.{arith}
 use native.Mathlib.Decide.{ℕ-discrete, decLt}
 use lib.ListN.{length, length-set}
@@ -34,17 +34,18 @@ use Rattle.rules.proofs.Replaced.{set-replaces}
 use Rattle.kept.proofs.Change.{quiet-set, single-set, row-leaves}
 use Rattle.kept.proofs.Moves.{row-head, stander-used, received-kept, activated-kept}
 use Rattle.kept.proofs.Tasks.{isFree, free}
-use Rattle.image.specs.Record.{recordLength, atPriority, atParent, atAwaited, storedPlace, fields, taskRecord, recordOf, byteAt}
+use Rattle.image.specs.Record.{recordLength, atPriority, atParent, atAwaited, atEntry, storedPlace, fields, taskRecord, recordOf, byteAt, entryAt}
 use Rattle.image.specs.Image.{imageOf}
 use Rattle.image.proofs.Stands.{stored-in, stored-none}
 use Rattle.records.specs.Records.{Records, withRecord, queues, movedUp, closedUp}
 use Rattle.records.specs.Stage.{Stage, leftBytes}
+use Rattle.records.proofs.Numbers.{number-same}
 use Rattle.records.proofs.Records.{with-record, closed-up}
 use Rattle.records.proofs.Rows.{leaves-same, leaves-other}
 use Rattle.records.proofs.Told.{Told, ready-told, sender-told}
 use Rattle.records.proofs.Heads.{closed-byte, closed-used}
 use Rattle.records.proofs.Images.{records-image}
-use Rattle.records.proofs.Tasks.{byte-priority, byte-parent}
+use Rattle.records.proofs.Tasks.{byte-priority, byte-parent, entry-at}
 use Rattle.records.proofs.Changes.{same-record}
 
 -- a record that moves up is that of the task, one place nearer the head
@@ -134,11 +135,18 @@ module _ {n used a : ℕ} {t : Table} {b count : List ℕ} (g : Stage n used a n
   pub closed-priority : byteAt (closedUp code at key b used) (headAt t k) atPriority ≡ taskAt t (headAt t k) .priority
   closed-priority = closed-byte g code at key used (headAt t k) atPriority (omega arith) (λ e. omega arith) ∙ byte-priority g (headAt t k) head-below
 
+  closed-entry : entryAt (closedUp code at key b used) (headAt t k) ≡ entryAt b (headAt t k)
+  closed-entry =
+      let s = headAt t k in
+      let at′ = s * recordLength + atEntry in
+      number-same (closedUp code at key b used) b at′ at′ 4
+      (λ d h. rw (add-assoc (s * recordLength) atEntry d) (closed-byte g code at key used s (atEntry + d) (omega arith) (λ e. omega arith)))
+
   pub closed-left : (st : State) (o : Result) (place : ℕ) → let s = headAt t k in
       leftBytes (closedUp code at key b used) s st o place ≡ withRecord (closedUp code at key b used) s (fields (taskAs st o (taskAt t s)) place)
   closed-left st o place =
       let s = headAt t k in
-      rw (closed-priority, closed-byte g code at key used s atParent (omega arith) (λ e. omega arith), byte-parent g s head-below)
+      rw (closed-priority, closed-byte g code at key used s atParent (omega arith) (λ e. omega arith), byte-parent g s head-below, closed-entry, entry-at g s head-below)
 
   -- the head is left in a state in which it stands in no queue
   head-leaves : (st : State) → isFree st ≡ true → Records n (recordOf (headLeft t k st)) (leftBytes (closedUp code at key b used) (headAt t k) st Nothing 0)

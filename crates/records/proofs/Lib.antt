@@ -1,5 +1,6 @@
 pub mod Records
 pub mod Images
+pub mod Numbers
 pub mod Tasks
 pub mod Rows
 pub mod Changes

@@ -61,14 +61,14 @@ module _ {n used a : ℕ} {t : Table} {b count : List ℕ} (g : Stage n used a n
       (getD-set-other (t .tasks) s i x noTask ne) (λ _ _ _. refl))
 
   -- the first unused slot is a new task, to be woken
-  pub adds-stage : (p c : ℕ) → used < n → p < priorities → c < used
-      → Stage n (used + 1) a (λ j. eqb j (usedSlots t)) (withTask t (usedSlots t) (newTask p c)) (withRecord b used (fields (newTask p c) (getD count p 0))) count
-  adds-stage p c room low l =
+  pub adds-stage : (p entry c : ℕ) → used < n → p < priorities → c < used
+      → Stage n (used + 1) a (λ j. eqb j (usedSlots t)) (withTask t (usedSlots t) (newTask p entry c)) (withRecord b used (fields (newTask p entry c) (getD count p 0))) count
+  adds-stage p entry c room low l =
       let f = g .rules in
-      let x = newTask p c in
+      let x = newTask p entry c in
       let e : usedSlots t ≡ used = used-slots f in
       let t′ = withTask t used x in
-      let rules = added-kept f p c e room low l in
+      let rules = added-kept f p entry c e room low l in
       let at : p < queuesFor n = omega arith in
       let nowhere : standing n (taskAt t used) ≡ queuesFor n =
       ap (standing n) (f .tasks .unused used (le-refl used)) ∙ stands-nowhere (queuesFor n) noTask refl refl refl in

@@ -11,14 +11,15 @@ use Rattle.task.specs.Task.{noTask, stateCode, awaited, isUsed, messageOf, repl
 use Rattle.kernel.specs.declared.table.Table.{Table}
 use Rattle.kernel.specs.Table.{taskAt}
 use Rattle.kept.proofs.Tasks.{codeAt}
-use Rattle.image.specs.Bytes.{recordAt}
-use Rattle.image.specs.Record.{recordLength, atState, atPriority, atParent, atAwaited, atResult, atMessage, atReply, atCut, storedPlace, fields, taskRecord, recordOf, byteIn, bufferIn, resultPartsIn, resultOf, usedFrom, byteAt}
+use Rattle.image.specs.Bytes.{numberIn, recordAt}
+use Rattle.image.specs.Record.{recordLength, atState, atPriority, atParent, atAwaited, atResult, atMessage, atReply, atCut, atEntry, storedPlace, fields, taskRecord, recordOf, byteIn, bufferIn, resultPartsIn, resultOf, usedFrom, byteAt, entryAt}
 use Rattle.image.proofs.Record.{Storable, buffer-back, used-back}
 use Rattle.image.proofs.Restored.{storable}
 use Rattle.rules.specs.Facts.{Waking}
 use Rattle.records.specs.Records.{Records}
 use Rattle.records.specs.Stage.{Stage}
-use Rattle.image.proofs.Bytes.{byte-in}
+use Rattle.image.proofs.Bytes.{number-back, byte-in}
+use Rattle.records.proofs.Numbers.{number-in}
 
 -- The records of a table that keeps the rules.
 module _ {n used a : ℕ} {w : ℕ → Bool} {t : Table} {b : List ℕ} (f : Waking n used a w t) (records : Records n (recordOf t) b) where
@@ -55,6 +56,12 @@ module _ {n used a : ℕ} {w : ℕ → Bool} {t : Table} {b : List ℕ} (f : Wak
   unfolding taskRecord
   cut-told = byte-told atCut (omega arith) (λ x. resultCut (x .result)) (λ _ _. refl) refl
 
+  pub entry-told : (s : ℕ) → s < n → entryAt b s ≡ taskAt t s .entry
+  unfolding taskRecord
+  entry-told s h =
+      number-in b s atEntry 4 (omega arith)
+      ∙ told (λ r x. numberIn r atEntry 4 ≡ x .entry) (λ x place f. number-back 4 (x .entry) (f .entry)) refl s h
+
 -- The same of a stage.
 module _ {n used a : ℕ} {w : ℕ → Bool} {t : Table} {b count : List ℕ} (g : Stage n used a w t b count) where
   pub byte-code : (s : ℕ) → s < n → byteAt b s atState ≡ codeAt t s
@@ -67,6 +74,9 @@ module _ {n used a : ℕ} {w : ℕ → Bool} {t : Table} {b count : List ℕ} (g
   pub byte-parent : (s : ℕ) → s < n → byteAt b s atParent ≡ taskAt t s .parent
   unfolding taskRecord
   byte-parent = byte-told (g .rules) (g .records) atParent (omega arith) (λ x. x .parent) (λ _ _. refl) refl
+
+  pub entry-at : (s : ℕ) → s < n → entryAt b s ≡ taskAt t s .entry
+  entry-at = entry-told (g .rules) (g .records)
 
   pub message-read : (s : ℕ) → s < n → bufferIn (recordAt recordLength b s) atMessage ≡ messageOf (taskAt t s .state)
   unfolding taskRecord

@@ -13,7 +13,7 @@ use Rattle.task.specs.declared.task.Task.{Task}
 use Rattle.kernel.specs.declared.table.Table.{Table}
 use Rattle.kernel.specs.Table.{queueAt}
 use Rattle.rules.specs.Facts.{Waking}
-use Rattle.image.specs.Record.{atPriority, atParent, fields, recordOf, byteAt}
+use Rattle.image.specs.Record.{atPriority, atParent, fields, recordOf, byteAt, entryAt}
 use Rattle.records.specs.Records.{Records, withRecord}
 
 -- how many stand in each queue of a table of n slots
@@ -33,9 +33,10 @@ pub record Stage (n used a : ℕ) (waking : ℕ → Bool) (t : Table) (b count :
 
 -- the task that a record has, in another state
 abbrev pub taskLeft : List ℕ → ℕ → State → Result → Task
-taskLeft b s st o = record { state = st; priority = byteAt b s atPriority; parent = byteAt b s atParent; result = o }
+taskLeft b s st o =
+    record { state = st; priority = byteAt b s atPriority; parent = byteAt b s atParent; entry = entryAt b s; result = o }
 
--- a record written anew, but for its priority and its parent
+-- a record written anew, but for its priority, its parent and its entry number
 abbrev pub leftBytes : List ℕ → ℕ → State → Result → ℕ → List ℕ
 leftBytes b s st o place = withRecord b s (fields (taskLeft b s st o) place)
 

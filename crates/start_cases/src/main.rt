@@ -1,7 +1,8 @@
 // Reads starts of the byte entry from standard input, and writes what the entry did.
 //
-// A start is eight bytes, the priority and the image's length, each a word with the lowest byte first. For each the verdict is
-// written as four bytes, and then the image, whose bytes were all 0xA5 before the call.
+// A start is twelve bytes, the priority, the entry number and the image's length, each a word with the lowest byte first. For each the
+// verdict is written as four bytes, and then the image, whose bytes were all 0xA5 before the call.
+use chunks::write_word;
 use entry::kernel_start;
 use image::words::word;
 use libc::STDERR_FILENO;
@@ -9,7 +10,7 @@ use libc::STDIN_FILENO;
 use libc::STDOUT_FILENO;
 
 // How long a start is.
-const START: usize = 8;
+const START: usize = 12;
 
 // The longest image.
 const MOST: usize = 16384;
@@ -18,15 +19,9 @@ const MOST: usize = 16384;
 const BEFORE: u8 = 0xA5;
 
 // Starts a kernel, and writes what came of it. Answers whether all was written.
-fn call(priority: u32, image: &mut [u8]) -> bool {
-    let verdict = kernel_start(priority, &mut *image);
-    let shown = [
-        (verdict % 256) as u8,
-        (verdict / 256 % 256) as u8,
-        (verdict / 65536 % 256) as u8,
-        (verdict / 16777216 % 256) as u8,
-    ];
-    io::write_all(STDOUT_FILENO, &shown) && io::write_all(STDOUT_FILENO, &*image)
+fn call(priority: u32, entry: u32, image: &mut [u8]) -> bool {
+    let verdict = kernel_start(priority, entry, &mut *image);
+    write_word(verdict as usize) && io::write_all(STDOUT_FILENO, &*image)
 }
 
 // One start. Answers whether to go on.
@@ -40,7 +35,7 @@ fn run_start() -> bool {
         io::write_all(STDERR_FILENO, b"start_cases: the last start is cut short\n");
         return false;
     }
-    let length = word(asked[4], asked[5], asked[6], asked[7]) as usize;
+    let length = word(asked[8], asked[9], asked[10], asked[11]) as usize;
     if MOST < length {
         io::write_all(
             STDERR_FILENO,
@@ -51,6 +46,7 @@ fn run_start() -> bool {
     let mut image = [BEFORE; MOST];
     call(
         word(asked[0], asked[1], asked[2], asked[3]),
+        word(asked[4], asked[5], asked[6], asked[7]),
         &mut image[..length],
     )
 }

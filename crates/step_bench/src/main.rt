@@ -15,8 +15,10 @@ use step::step;
 use tid::sizes::AREA;
 use tid::sizes::SLOTS;
 
-// The first task's priority.
+// The first task's priority and its entry number.
 const FIRST: u32 = 16;
+
+const FIRST_ENTRY: u32 = 0;
 
 // As many records as the buffer holds; others are not read.
 const MOST: usize = 2730;
@@ -59,7 +61,7 @@ fn main() {
     let mut records = io::large_buffer();
     let n = io::read_full(STDIN_FILENO, &mut records);
     if 0 < n {
-        let started = start(FIRST);
+        let started = start(FIRST, FIRST_ENTRY);
         let first = started.table;
         let mut areas = [0u8; SLOTS * AREA];
         let mut answers = [0u8; MOST * ANSWER];

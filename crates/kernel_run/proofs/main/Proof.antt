@@ -1,4 +1,4 @@
--- `main`: a fresh kernel of priority 16, with areas of zeros, is where the run of no input stands.
+-- `main`: a fresh kernel of priority 16 and entry number 0, with areas of zeros, is where the run of no input stands.
 use mathlib.Core.List.{[]}
 use borrow.Author.Needs.{needs}
 use Rattle.lines.proofs.Printed.{reached-none}

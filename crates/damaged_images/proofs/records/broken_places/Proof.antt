@@ -9,7 +9,7 @@ abbrev Inv-loop : tie.InvT-loop
 Inv-loop image tid broken₀ at₀ broken at = Unit {0}
 
 abbrev μ-loop : tie.MeasureT-loop
-μ-loop image tid broken₀ at₀ broken at = 20 - at
+μ-loop image tid broken₀ at₀ broken at = 24 - at
 
 loop-holds : tie.Need-loop-holds Inv-loop μ-loop
 loop-holds c = tt

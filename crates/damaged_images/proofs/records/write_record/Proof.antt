@@ -9,7 +9,7 @@ abbrev Inv-loop : tie.InvT-loop
 Inv-loop image tid at₀ t8 at = Unit {0}
 
 abbrev μ-loop : tie.MeasureT-loop
-μ-loop image tid at₀ t8 at = 20 - at
+μ-loop image tid at₀ t8 at = 24 - at
 
 loop-holds : tie.Need-loop-holds Inv-loop μ-loop
 loop-holds c = tt
@@ -38,6 +38,10 @@ write-record-spec =
     (λ c. search needs)
     (λ c κs. search needs)
     (λ c κs. search needs)
+    (λ c κs. search needs)
+    (λ c. search needs)
+    (λ c κs. search needs)
+    (λ c. search needs)
     (λ c κs. search needs)
     (λ c. search needs)
     (λ c κs. search needs)

@@ -8,10 +8,10 @@ use Rattle.damaged_images.proofs.whole.longer.Statement.{statement}
 use Rattle.damaged_images.proofs.whole.longer.Tie as tie
 
 abbrev Inv-loop : tie.InvT-loop
-Inv-loop image long₀ at₀ long at = length long ≡ 641
+Inv-loop image long₀ at₀ long at = length long ≡ 769
 
 abbrev μ-loop : tie.MeasureT-loop
-μ-loop image long₀ at₀ long at = 640 - at
+μ-loop image long₀ at₀ long at = 768 - at
 
 loop-less : tie.Need-loop-less Inv-loop μ-loop
 loop-less c = omega arith

@@ -8,10 +8,10 @@ use Rattle.damaged_images.proofs.whole.random.Statement.{statement}
 use Rattle.damaged_images.proofs.whole.random.Tie as tie
 
 abbrev Inv-loop : tie.InvT-loop
-Inv-loop bytes₀ x₀ at₀ bytes x at = length bytes ≡ 640
+Inv-loop bytes₀ x₀ at₀ bytes x at = length bytes ≡ 768
 
 abbrev μ-loop : tie.MeasureT-loop
-μ-loop bytes₀ x₀ at₀ bytes x at = 640 - at
+μ-loop bytes₀ x₀ at₀ bytes x at = 768 - at
 
 loop-less : tie.Need-loop-less Inv-loop μ-loop
 loop-less c = omega arith

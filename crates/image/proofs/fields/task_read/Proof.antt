@@ -8,8 +8,9 @@ use Rattle.task.specs.declared.task.Result.{Result}
 use Rattle.image.specs.declared.fields.Parts.{Parts}
 use Rattle.image.specs.declared.fields.Stated.{Stated}
 use Rattle.image.specs.declared.fields.ResultParts.{ResultParts}
+use Rattle.image.specs.Bytes.{numberIn}
 use Rattle.image.specs.ResultParts.{resultPartsOf}
-use Rattle.image.specs.Record.{atState, atPriority, atParent, atPlace, byteIn, partsOf, partsIn, resultPartsIn, stateFrom, resultOf, taskFrom}
+use Rattle.image.specs.Record.{atState, atPriority, atParent, atPlace, atEntry, byteIn, partsOf, partsIn, resultPartsIn, stateFrom, resultOf, taskFrom}
 use Rattle.image.specs.Exact.{sameParts, sameResultParts, exactPlace, statedFrom, exactRecord, taskRead}
 use Rattle.image.proofs.Made.{entry-made}
 use Rattle.image.proofs.fields.task_read.Statement.{statement}
@@ -21,18 +22,18 @@ regrouped true b c = and-comm b c
 regrouped false b c = refl
 
 -- what a used record gives, from its state with its place
-entry-stated : (r : List ℕ) (parts : Parts) (told : ResultParts) (stated : Stated) (result : Result) (q : Bool)
+entry-stated : (r : List ℕ) (parts : Parts) (told : ResultParts) (stated : Stated) (result : Result) (entry : ℕ) (q : Bool)
     → (byteIn r atState ≡ 0 → ⊥) → parts ≡ partsIn r → told ≡ resultPartsIn r → stated ≡ statedFrom parts (byteIn r atPlace)
-    → result ≡ resultOf told → q ≡ sameResultParts (resultPartsOf (resultOf told)) told
+    → result ≡ resultOf told → entry ≡ numberIn r atEntry 4 → q ≡ sameResultParts (resultPartsOf (resultOf told)) told
     → record {
-      task = record { state = stated .state; priority = byteIn r atPriority; parent = byteIn r atParent; result = result };
+      task = record { state = stated .state; priority = byteIn r atPriority; parent = byteIn r atParent; entry = entry; result = result };
       exact = stated .exact && q;
     } ≡ taskRead r
-entry-stated r parts told stated result q some a b c d e =
+entry-stated r parts told stated result entry q some a b c d word e =
     let same = sameParts (partsOf (stateFrom parts)) parts in
     let placed = exactPlace (parts .code) (byteIn r atPlace) in
     let rest = ap (λ (p : Parts). exactPlace (p .code) (byteIn r atPlace)) a in
-    rw (c, regrouped same placed q)
+    rw (c, word, regrouped same placed q)
     (entry-made r parts told (stateFrom parts) result same q placed some a b refl d refl e rest)
 
 returns : tie.Need-returns
@@ -41,13 +42,14 @@ returns c = rw (c .before .before .if1 .taken) (λ i. record { task = c .before 
 
 returns-2 : tie.Need-returns-2
 returns-2 c = let asked = c .before in
-    let from = asked .before .before .before in
+    let from = asked .before .before .before .before in
     let read = from .before .before .before in
-    entry-stated (read .before .before .before .before .before .args .r .now) _ _ _ _ _ (read .before .before .if1 .left)
+    entry-stated (read .before .before .before .before .before .args .r .now) _ _ _ _ _ _ (read .before .before .if1 .left)
     (read .before .parts-in .ensures)
     (read .result-parts-in .ensures)
     (from .before .stated-from .ensures)
     (from .result-of .ensures)
+    (asked .before .word-in .ensures)
     (asked .exact-result .ensures)
 
 pub task-read-spec : {M : Type 1} → statement M
@@ -65,5 +67,6 @@ task-read-spec =
     (λ c κs. search needs)
     (λ c. search needs)
     (λ c. search needs)
+    (λ c κs. search needs)
     (λ c κs. search needs)
     returns-2)

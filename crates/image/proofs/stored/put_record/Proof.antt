@@ -7,14 +7,15 @@ use native.Mathlib.Numerals.{add-one}
 use lib.ListN.{length, length-set}
 use lib.Seq.{paste, paste-zero, paste-suc}
 use borrow.Author.Needs.{needs}
+use Rattle.image.specs.Record.{recordLength}
 use Rattle.image.proofs.stored.put_record.Statement.{statement}
 use Rattle.image.proofs.stored.put_record.Tie as tie
 
 abbrev Inv-loop : tie.InvT-loop
-Inv-loop out₀ at r i₀ out i = (i ≤ 20) × (length out ≡ length out₀) × (out ≡ paste out₀ at r i)
+Inv-loop out₀ at r i₀ out i = (i ≤ recordLength) × (length out ≡ length out₀) × (out ≡ paste out₀ at r i)
 
 abbrev μ-loop : tie.MeasureT-loop
-μ-loop out₀ at r i₀ out i = 20 - i
+μ-loop out₀ at r i₀ out i = recordLength - i
 
 loop-holds : tie.Need-loop-holds Inv-loop μ-loop
 loop-holds c = (omega arith, refl, paste-zero (c .args .out .now) (c .args .at) (c .args .t3))
@@ -32,7 +33,7 @@ loop-again c =
 
 returns : tie.Need-returns Inv-loop μ-loop
 returns c =
-    let end : c .before .loop .i ≡ 20 = omega arith in
+    let end : c .before .loop .i ≡ recordLength = omega arith in
     c .before .loop .inv .2 ∙ ap (paste (c .before .before .args .out .now) (c .before .before .args .at) (c .before .before .args .t3)) end
 
 pub put-record-spec : {M : Type 1} → statement M

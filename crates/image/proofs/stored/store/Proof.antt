@@ -6,7 +6,6 @@ use mathlib.Core.List.{List, _++_}
 use native.Mathlib.Omega.{arith}
 use lib.Seq.{paste}
 use lib.ListN.{length, drop}
-use borrow.Author.Tests.{eq-eqb, ne-eqb}
 use borrow.Author.Needs.{needs}
 use Rattle.tid.proofs.Byte.{in-byte}
 use Rattle.tid.specs.Tid.{markOf}
@@ -30,12 +29,12 @@ abbrev μ-loop : tie.MeasureT-loop
 μ-loop out₀ table s₀ out s = slotCount - s
 
 -- the place that was found is the task's
-found : (c : tie.Joined2 Inv-loop μ-loop) →
+found : (c : tie.Joined1 Inv-loop μ-loop) →
     let at = c .before .before .before .before in
-    c .if2 .place ≡ storedPlace (at .before .before .before .args .t1) (at .loop .s)
+    c .if1 .place ≡ storedPlace (at .before .before .args .t1) (at .loop .s)
 found c =
     let at = c .before .before .before .before in
-    let start = at .before .before .before in
+    let start = at .before .before in
     let t = start .args .t1 in
     let size = owned-shaped t _ (start .good .0) .tasks in
     let own = sym (c .before .queue-of .ensures) in
@@ -43,13 +42,7 @@ found c =
     ⊎-elim
     (λ w. w .4 ∙ w .3 .ensures ∙ ap (placeOf (queueAt t k)) (w .2 .ensures ∙ ap markOf (in-byte (at .loop .s) (omega arith))) ∙ sym (stored-in slotCount t (at .loop .s) size own (w .0 .taken)))
     (λ w. w .1 ∙ sym (stored-none slotCount t (at .loop .s) size own (w .0 .left)))
-    (c .if2 .came)
-
-returns : tie.Need-returns Inv-loop μ-loop
-returns c =
-    let start = c .before .before in
-    let count : slots (start .args .t1) ≡ slotCount = owned-shaped (start .args .t1) _ (start .good .0) .tasks in
-    rw (count, ne-eqb _ (slotCount * recordLength) (c .if1 .taken))
+    (c .if1 .came)
 
 loop-holds : tie.Need-loop-holds Inv-loop μ-loop
 unfolding inOrder
@@ -59,7 +52,7 @@ cast-record-of : tie.Need-cast-record-of Inv-loop μ-loop
 cast-record-of c =
     let joined = c .before .before in
     let at = joined .before .before .before .before in
-    let start = at .before .before .before in
+    let start = at .before .before in
     omega (arith, found joined, stored-most (owned-shaped (start .args .t1) _ (start .good .0)) (at .loop .s))
 
 loop-again : tie.Need-loop-again Inv-loop μ-loop
@@ -67,7 +60,7 @@ loop-again c =
     let put = c .before .before in
     let joined = put .before .before .before .before in
     let at = joined .before .before .before .before in
-    let start = at .before .before .before in
+    let start = at .before .before in
     let t = start .args .t1 in
     let s : ℕ = at .loop .s in
     let out : List ℕ = at .loop .out in
@@ -79,14 +72,13 @@ loop-again c =
           ∙ image-more recordLength (recordOf t) (length-recordOf t) s (start .args .out .now) out (at .loop .inv .2),
     )
 
-returns-2 : tie.Need-returns-2 Inv-loop μ-loop
-returns-2 c =
+returns : tie.Need-returns Inv-loop μ-loop
+returns c =
     let at = c .before in
-    let start = at .before .before .before in
+    let start = at .before .before in
     let t = start .args .t1 in
     let count : slots t ≡ slotCount = owned-shaped t _ (start .good .0) .tasks in
-    let whole : length (start .args .out .now) ≡ slots t * recordLength = omega (arith, at .before .if1 .left) in
-    rw (eq-eqb _ _ whole) (at .loop .inv .2 ∙ image-all t (start .args .out .now) (at .loop .s) (omega arith) (omega arith))
+    at .loop .inv .2 ∙ image-all t (start .args .out .now) (at .loop .s) (omega arith) (omega arith)
 
 pub store-spec : {M : Type 1} → statement M
 store-spec =
@@ -94,7 +86,6 @@ store-spec =
     (tie.spec
     Inv-loop
     μ-loop
-    returns
     loop-holds
     (λ c. search needs)
     (λ c. search needs)
@@ -111,4 +102,4 @@ store-spec =
     (λ c. search needs)
     loop-again
     (λ c. search needs)
-    returns-2)
+    returns)

@@ -1,7 +1,9 @@
 -- `create`: a way out for each test of the paper's row, the faults first.
+use mathlib.Core.Path.{_≡_}
 use native.Mathlib.Omega.{arith}
 use borrow.Author.Needs.{needs}
 use Rattle.tid.proofs.Byte.{in-byte}
+use Rattle.task.specs.Task.{entryOf}
 use Rattle.inplace.proofs.Requests.{create-unknown, create-full, create-adds}
 use Rattle.inplace.proofs.kinds.create.Statement.{statement}
 use Rattle.inplace.proofs.kinds.create.Tie as tie
@@ -10,14 +12,14 @@ returns : tie.Need-returns
 returns c =
     let start = c .before .before .before in
     let (running, begins) = start .pre in
-    rw (c .resumes .ensures) (create-unknown begins (omega arith) running (start .args .priority) (c .before .if1 .taken))
+    rw (c .resumes .ensures) (create-unknown begins (omega arith) running (start .args .priority) (start .args .entry) (c .before .if1 .taken))
 
 returns-2 : tie.Need-returns-2
 returns-2 c =
     let known = c .before .before in
     let start = known .before .before in
     let (running, begins) = start .pre in
-    rw (c .resumes2 .ensures) (create-full begins (omega arith) running (start .args .priority) (known .if1 .left) (c .before .if2 .taken))
+    rw (c .resumes2 .ensures) (create-full begins (omega arith) running (start .args .priority) (start .args .entry) (known .if1 .left) (c .before .if2 .taken))
 
 returns-3 : tie.Need-returns-3
 returns-3 c =
@@ -30,8 +32,9 @@ returns-3 c =
     let start = known .before .before in
     let (running, begins) = start .pre in
     let a = start .args in
+    let word : entryOf (a .entry) ≡ a .entry = omega arith in
     rw (c .number .ensures, told .tid-of2 .ensures, wrote .put .ensures, made .fields-of .ensures, named .tid-of .ensures, in-byte (a .c) (omega arith), in-byte (a .used) (omega arith))
-    (create-adds begins (omega arith) running (a .priority) (known .if1 .left) (room .if2 .left))
+    (rw word at (create-adds begins (omega arith) running (a .priority) (a .entry) (known .if1 .left) (room .if2 .left)))
 
 pub create-spec : {M : Type 1} → statement M
 create-spec =

@@ -1,15 +1,13 @@
 -- `inplace::store::leave` meets its contract: what is put are the fields of the task.
-use mathlib.Core.Path.{ap, _∙_}
 use borrow.Author.Needs.{needs}
-use Rattle.records.specs.Records.{withRecord}
 use Rattle.inplace.proofs.store.leave.Statement.{statement}
 use Rattle.inplace.proofs.store.leave.Tie as tie
 
 returns : tie.Need-returns
 returns c =
     let put = c .before .before in
-    let a = put .before .before .before .before .before .before .args in
-    put .put .ensures ∙ ap (withRecord (a .image .now) (a .s)) (put .before .fields-of .ensures)
+    let read = put .before .before .before in
+    rw (put .put .ensures, put .before .fields-of .ensures, read .word-at .ensures)
 
 pub leave-spec : {M : Type 1} → statement M
 leave-spec =
@@ -20,6 +18,8 @@ leave-spec =
     (λ c. search needs)
     (λ c. search needs)
     (λ c. search needs)
+    (λ c. search needs)
+    (λ c κs. search needs)
     (λ c κs. search needs)
     (λ c κs. search needs)
     (λ c. search needs)

@@ -1,4 +1,4 @@
--- `state::put_tasks`. The loop's invariant: the first s tasks are there, in at most 8 bytes each. The measure is the tasks that are left.
+-- `state::put_tasks`. The loop's invariant: the first s tasks are there, in at most 19 bytes each. The measure is the tasks that are left.
 use Prim.Native.Nat.{_-_, _*_, _≤_}
 use mathlib.Core.Path.{_≡_, refl}
 use native.Mathlib.Omega.{arith}
@@ -19,7 +19,7 @@ use Rattle.lines.proofs.state.put_tasks.Tie as tie
 abbrev Inv-loop : tie.InvT-loop
 Inv-loop out₀ at table used end₀ s₀ out end s =
     (s ≤ used) × (used ≤ slotCount) × (length out ≡ length out₀) × Appended out₀ end₀ (tasksText table s) out end
-    × (length (tasksText table s) ≤ 8 * s)
+    × (length (tasksText table s) ≤ 19 * s)
 
 abbrev μ-loop : tie.MeasureT-loop
 μ-loop out₀ at table used end₀ s₀ out end s = used - s

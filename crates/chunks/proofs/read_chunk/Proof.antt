@@ -2,8 +2,8 @@
 use native.Mathlib.Omega.{arith}
 use lib.ListN.{length-take}
 use borrow.Author.Needs.{needs}
-use Rattle.entry_cases.proofs.read_chunk.Statement.{statement}
-use Rattle.entry_cases.proofs.read_chunk.Tie as tie
+use Rattle.chunks.proofs.read_chunk.Statement.{statement}
+use Rattle.chunks.proofs.read_chunk.Tie as tie
 
 slice-aggregate-read-full-2 : tie.Need-slice-aggregate-read-full-2
 slice-aggregate-read-full-2 c = simp length-take (omega arith)

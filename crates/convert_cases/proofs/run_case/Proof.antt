@@ -1,0 +1,32 @@
+-- `run_case`: what is lent lies within its buffer.
+use native.Mathlib.Omega.{arith}
+use lib.ListN.{length-take}
+use borrow.Author.Needs.{needs}
+use Rattle.convert_cases.proofs.run_case.Statement.{statement}
+use Rattle.convert_cases.proofs.run_case.Tie as tie
+
+slice-aggregate-call : tie.Need-slice-aggregate-call
+slice-aggregate-call c = simp length-take (omega arith)
+
+slice-aggregate-call-2 : tie.Need-slice-aggregate-call-2
+slice-aggregate-call-2 c = simp length-take (omega arith)
+
+pub run-case-spec : {M : Type 1} → statement M
+run-case-spec =
+    tie.close
+    (tie.spec
+    (λ c. search needs)
+    (λ c κs. search needs)
+    (λ c. search needs)
+    (λ c κs. search needs)
+    (λ c. search needs)
+    (λ c. search needs)
+    (λ c κs. search needs)
+    (λ c κs. search needs)
+    (λ c. search needs)
+    (λ c. search needs)
+    slice-aggregate-call
+    (λ c. search needs)
+    slice-aggregate-call-2
+    (λ c κs. search needs)
+    (λ c. search needs))

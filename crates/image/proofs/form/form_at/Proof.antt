@@ -1,0 +1,13 @@
+-- `image::form::form_at`: the rows of `formAt`.
+use borrow.Author.Tests.{eq-eqb, ne-eqb}
+use Rattle.image.proofs.form.form_at.Statement.{statement}
+use Rattle.image.proofs.form.form_at.Tie as tie
+
+returns : tie.Need-returns
+returns c = rw (eq-eqb _ 0 (c .if1 .taken))
+
+returns-2 : tie.Need-returns-2
+returns-2 c = rw (ne-eqb _ 0 (c .if1 .left))
+
+pub form-at-spec : {M : Type 1} → statement M
+form-at-spec = tie.close (tie.spec returns returns-2)
