@@ -36,7 +36,7 @@ ConvertedIsRead =
     (n : ℕ) (image out : List ℕ) → convertVerdict n image (length out) ≡ accepted
     → readImage n (converted n image out) ≡ readImage n image
 
--- There and back gives the same bytes: what was converted is converted into the length that it came from, whatever those bytes held.
+-- Converted back into the length that it came from, an image is what it was, whatever the bytes held that it is written into.
 abbrev pub ThereAndBack : Type 0
 ThereAndBack =
     (n : ℕ) (image out back : List ℕ) → length back ≡ length image → convertVerdict n image (length out) ≡ accepted
