@@ -14,7 +14,7 @@
 #include "kernel.h"
 #include "plain.h"
 
-enum { MOST = 1 << 16, PRIORITY = 16, FIRST_ENTRY = 0 }; /* as step_bench starts */
+enum { MOST = 1 << 16, EDITION = BREDONYCH_ONE_WAITS, PRIORITY = 16, FIRST_ENTRY = 0 }; /* as step_bench starts */
 
 static uint8_t image[IMAGE_BYTES], areas[AREAS_BYTES];
 static uint8_t workload[MOST * RECORD_BYTES], answers[MOST * ANSWER_BYTES];
@@ -27,19 +27,19 @@ static void none_step(const uint8_t *record, uint8_t *answer) { (void)record, (v
 static void image_is_there(void) {}
 
 #ifdef ENTRY
-static void entry_start(void) { kernel_start(PRIORITY, FIRST_ENTRY, image, sizeof image); }
+static void entry_start(void) { kernel_start(EDITION, PRIORITY, FIRST_ENTRY, image, sizeof image); }
 
 static void entry_step(const uint8_t *record, uint8_t *answer)
 {
-    kernel_step(image, sizeof image, areas, sizeof areas, record, RECORD_BYTES, answer, ANSWER_BYTES);
+    kernel_step(EDITION, image, sizeof image, areas, sizeof areas, record, RECORD_BYTES, answer, ANSWER_BYTES);
 }
 #endif
 
-static void peer_entry_start(void) { peer_start(PRIORITY, FIRST_ENTRY, image, sizeof image); }
+static void peer_entry_start(void) { peer_start(EDITION, PRIORITY, FIRST_ENTRY, image, sizeof image); }
 
 static void peer_entry_step(const uint8_t *record, uint8_t *answer)
 {
-    peer_step(image, sizeof image, areas, sizeof areas, record, RECORD_BYTES, answer, ANSWER_BYTES);
+    peer_step(EDITION, image, sizeof image, areas, sizeof areas, record, RECORD_BYTES, answer, ANSWER_BYTES);
 }
 
 /* In memory a host has requests and answers as they are: those of the plain step are laid out like the records, on a
@@ -60,7 +60,7 @@ static void plain_last(void) { plain_image(image); }
 
 static struct table table;
 
-static void memory_start(void) { table_start(&table, PRIORITY, FIRST_ENTRY); }
+static void memory_start(void) { table_start(&table, EDITION, PRIORITY, FIRST_ENTRY); }
 
 static void memory_step(const uint8_t *record, uint8_t *answer)
 {

@@ -1,4 +1,5 @@
-/* A step as one would write it by hand and trust: no check of the table, and none of the request but for the faults that it has. */
+/* A step as one would write it by hand and trust: no check of the table, and none of the request but for the faults that it has. It has the
+ * rule of edition 1 alone, which the workload runs in. */
 #ifndef PLAIN_H
 #define PLAIN_H
 

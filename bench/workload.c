@@ -1,7 +1,8 @@
 /* workload TASKS STEPS SEED: writes a mixed workload as request records, the same ones for the same words.
  *
  * Task 1 idles, some tasks serve, the others ask them. First come the requests that make them all, then STEPS more. What each task
- * asks depends on what it was told, so the peer's kernel is stepped beside it. Send, Receive and Reply make about 79 of 100. */
+ * asks depends on what it was told, so the peer's kernel is stepped beside it, in edition 1. Send, Receive and Reply make about 79 of
+ * 100. */
 #include <stdio.h>
 #include <stdlib.h>
 
@@ -121,7 +122,7 @@ static int32_t some_event(void)
     int32_t found[EVENTS];
     uint32_t count = 0;
     for (int32_t e = 0; e < EVENTS; e++)
-        if (table.waiter[e])
+        if (table.waiters[e].length > 0)
             found[count++] = e;
     return count > 0 ? found[below(&seed, count)] : between(0, EVENTS);
 }
@@ -129,7 +130,7 @@ static int32_t some_event(void)
 static bool awaited(void)
 {
     for (int32_t e = 0; e < EVENTS; e++)
-        if (table.waiter[e])
+        if (table.waiters[e].length > 0)
             return true;
     return false;
 }
@@ -164,7 +165,7 @@ int main(int argc, char **argv)
         return 2;
     }
     servers = tasks == 2 ? 1 : tasks <= 16 ? 4 : 8;
-    table_start(&table, FIRST_PRIORITY, 0);
+    table_start(&table, EDITION_SOLE, FIRST_PRIORITY, 0);
     make_all();
     unsigned long made = all;
     for (unsigned long i = 0; i < steps; i++)

@@ -1,7 +1,7 @@
-/* Feeds byte-entry cases to kernel_step, on any target. A case is the image, areas, record and answer, each a length (four bytes,
-   little-endian) and its bytes; what is written for it is the verdict (four bytes) and the four again, as the call left them. Before
-   the cases, kernel_start is called with some priorities, entry numbers and lengths, and kernel_convert with images of both forms, good
-   and not; each verdict is written, and the image that there is then. */
+/* Feeds byte-entry cases to kernel_step, on any target. A case is the edition (four bytes, little-endian), then the image, areas, record
+   and answer, each a length (four bytes) and its bytes; what is written for it is the verdict (four bytes) and the four again, as the
+   call left them. Before the cases, kernel_start is called with some editions, priorities, entry numbers and lengths, and kernel_convert
+   with images of both forms, good and not, in both editions and in none; each verdict is written, and the image that there is then. */
 #include <stdint.h>
 #include <unistd.h>
 #include "bredonych.h"
@@ -49,13 +49,14 @@ static int word_write(uint32_t word)
 
 static int starts(void)
 {
-    static const uint32_t priority[] = { 0, 16, 31, 32, UINT32_MAX, 16, 16, 16 };
-    static const uint32_t entry[] = { 0, 0x04030201, UINT32_MAX, 1, 1, 1, 1, 1 };
-    static const uint32_t bytes[] = { 768, 768, 768, 768, 768, 767, 640, 0 };
-    for (int i = 0; i < 8; i++) {
+    static const uint32_t edition[] = { 1, 2, 1, 2, 1, 2, 1, 1, 0, 3, 257, UINT32_MAX };
+    static const uint32_t priority[] = { 0, 16, 31, 32, UINT32_MAX, 16, 16, 16, 16, 32, 16, 32 };
+    static const uint32_t entry[] = { 0, 0x04030201, UINT32_MAX, 1, 1, 1, 1, 1, 1, 1, 1, 1 };
+    static const uint32_t bytes[] = { 768, 768, 768, 768, 768, 767, 640, 0, 768, 768, 767, 0 };
+    for (int i = 0; i < 12; i++) {
         for (int at = 0; at < BREDONYCH_IMAGE; at++) chunk[0][at] = at;
         watch_begin();
-        uint32_t verdict = kernel_start(priority[i], entry[i], chunk[0], bytes[i]);
+        uint32_t verdict = kernel_start(edition[i], priority[i], entry[i], chunk[0], bytes[i]);
         watch_end();
         if (!word_write(verdict) || !whole_write(chunk[0], BREDONYCH_IMAGE)) return 0;
     }
@@ -64,55 +65,64 @@ static int starts(void)
 }
 
 /* From chunk 0 into chunk 2, which is filled before. */
-static int converted(uint32_t from, uint32_t to)
+static int converted(uint32_t edition, uint32_t from, uint32_t to)
 {
     for (int at = 0; at < BREDONYCH_IMAGE; at++) chunk[2][at] = at;
     watch_begin();
-    uint32_t verdict = kernel_convert(chunk[0], from, chunk[2], to);
+    uint32_t verdict = kernel_convert(edition, chunk[0], from, chunk[2], to);
     watch_end();
     return word_write(verdict) && whole_write(chunk[2], BREDONYCH_IMAGE);
 }
 
-/* A full table, in which no entry number is in the way. */
-static void fill(void)
+/* A full table, in which no entry number is in the way: all but the first task are ready, or they all wait for one event. */
+static void fill(int waiting)
 {
-    static const uint8_t create[BREDONYCH_REQUEST] = { BREDONYCH_CREATE, 0, 0, 0, 20 };
-    kernel_start(16, 0, chunk[0], BREDONYCH_IMAGE);
+    const uint8_t create[BREDONYCH_REQUEST] = { BREDONYCH_CREATE, 0, 0, 0, waiting ? 8 : 20 };
+    const uint8_t waits[BREDONYCH_REQUEST] = { BREDONYCH_AWAIT_EVENT };
+    kernel_start(BREDONYCH_MANY_WAIT, 16, 0, chunk[0], BREDONYCH_IMAGE);
     for (int i = 1; i < BREDONYCH_TASKS; i++)
-        kernel_step(chunk[0], BREDONYCH_IMAGE, chunk[1], BREDONYCH_AREAS, create, sizeof create, chunk[3], BREDONYCH_ANSWER);
+        for (int asked = 0; asked <= waiting; asked++)
+            kernel_step(BREDONYCH_MANY_WAIT, chunk[0], BREDONYCH_IMAGE, chunk[1], BREDONYCH_AREAS,
+                        asked ? waits : create, BREDONYCH_REQUEST, chunk[3], BREDONYCH_ANSWER);
+}
+
+/* Into every length, and in every edition: one waits, many wait, and none. */
+static int converted_all(uint32_t from)
+{
+    static const uint32_t bytes[] = { 768, 640, 767, 639, 0 }, edition[] = { 1, 2, 257 };
+    for (int i = 0; i < 15; i++)
+        if (!converted(edition[i % 3], from, bytes[i / 3])) return 0;
+    return 1;
 }
 
 static int converts(void)
 {
-    static const uint32_t bytes[] = { 768, 640, 767, 639, 0 };
-    fill();
-    for (int i = 0; i < 5; i++)
-        if (!converted(768, bytes[i])) return 0;
+    for (int waiting = 0; waiting < 2; waiting++) {
+        fill(waiting);
+        if (!converted_all(768) || !converted(2, 768, 640)) return 0;
+        for (int at = 0; at < BREDONYCH_OLD_IMAGE; at++) chunk[0][at] = chunk[2][at];
+        if (!converted_all(640)) return 0;
+        chunk[0][1] = BREDONYCH_PRIORITIES; /* a priority that is none */
+        if (!converted(2, 640, 768)) return 0;
+    }
+    fill(0);
     chunk[0][31 * BREDONYCH_RECORD + BREDONYCH_ENTRY + 3] = 1; /* the last task's entry number: taken, but not by the old form */
-    if (!converted(768, 768) || !converted(768, 640)) return 0;
-    chunk[0][1] = BREDONYCH_PRIORITIES; /* and a priority that is none */
-    if (!converted(768, 768) || !converted(768, 640)) return 0;
-    fill();
-    if (!converted(768, 640)) return 0;
-    for (int at = 0; at < BREDONYCH_OLD_IMAGE; at++) chunk[0][at] = chunk[2][at];
-    for (int i = 0; i < 5; i++)
-        if (!converted(640, bytes[i])) return 0;
+    if (!converted(1, 768, 768) || !converted(1, 768, 640)) return 0;
     chunk[0][1] = BREDONYCH_PRIORITIES;
-    if (!converted(640, 768)) return 0;
+    if (!converted(1, 768, 768) || !converted(1, 768, 640)) return 0;
     watch_report("kernel_convert");
     return 1;
 }
 
 int main(void)
 {
+    uint32_t edition;
     if (!starts() || !converts()) return 1;
-    while (word_read(&length[0])) {
-        for (int i = 0; i < CHUNKS; i++) {
-            if (i > 0 && !word_read(&length[i])) return 1;
-            if (length[i] > MOST || !whole_read(chunk[i], length[i])) return 1;
-        }
+    while (word_read(&edition)) {
+        for (int i = 0; i < CHUNKS; i++)
+            if (!word_read(&length[i]) || length[i] > MOST || !whole_read(chunk[i], length[i])) return 1;
         watch_begin();
-        uint32_t verdict = kernel_step(chunk[0], length[0], chunk[1], length[1],
+        uint32_t verdict = kernel_step(edition, chunk[0], length[0], chunk[1], length[1],
                                        chunk[2], length[2], chunk[3], length[3]);
         watch_end();
         if (!word_write(verdict)) return 1;

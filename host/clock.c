@@ -1,7 +1,8 @@
 /* A host with a clock: three channels of a mixer bring their gains up in steps, each at its own pace, by asking the clock to be woken.
  * Task 1 makes the clock, which makes its notifier, and then the channels. The host raises the tick's event whenever nobody runs; on a
  * board a timer does, every 10 ms. Every entry number is 0, which the clock gives its notifier too: this host tells its tasks apart by
- * their ids. Compiled with -DRECORDS=1 it writes the requests that are made, as kernel-run reads them. */
+ * their ids. The notifier alone waits for the tick, so that all of it is the same in either edition, of which -DEDITION=2 takes the second.
+ * Compiled with -DRECORDS=1 it writes the requests that are made, as kernel-run reads them. */
 #include <stdio.h>
 #include <stdlib.h>
 #include <string.h>
@@ -10,6 +11,9 @@
 
 #ifndef RECORDS
 #define RECORDS 0
+#endif
+#ifndef EDITION
+#define EDITION BREDONYCH_ONE_WAITS
 #endif
 
 enum { BOARD = 1, CLOCK = 2, NOTIFIER = 3, FIRST_CHANNEL = 4, CHANNELS = 3, TASKS = 7, TICK_EVENT = 0, CALL_AT = 0, NO_SUCH_TASK = 32 };
@@ -173,7 +177,7 @@ static int done(void)
 
 int main(void)
 {
-    must("the kernel", kernel_start(16, 0, image, sizeof image));
+    must("the kernel", kernel_start(EDITION, 16, 0, image, sizeof image));
     must("the clock", clock_start(1, clock_state, sizeof clock_state));
     must("the notifier", notifier_start(TICK_EVENT, notifier_state, sizeof notifier_state));
     uint32_t active = BOARD;
@@ -184,7 +188,7 @@ int main(void)
             ticks++;
             ask(BREDONYCH_EVENT, TICK_EVENT, 0);
         }
-        must("a step", kernel_step(image, sizeof image, areas, sizeof areas, request, sizeof request, answer, sizeof answer));
+        must("a step", kernel_step(EDITION, image, sizeof image, areas, sizeof areas, request, sizeof request, answer, sizeof answer));
         if (RECORDS)
             fwrite(request, 1, sizeof request, stdout);
         active = word_at(answer + 4);

@@ -12,6 +12,9 @@
 
 enum { CLIENT = 1, GAIN = 2, KEY = 1, ASKED = 0, READING = 8, TRUE_GAIN = 42 };
 
+/* This host has one edition for good, and so stores none: the panel alone waits for its key. */
+enum { EDITION = BREDONYCH_ONE_WAITS };
+
 /* The entry numbers of this host. 0 is none of them: it stands with tasks that were made before there were entry numbers. */
 enum { GAIN_CODE = 1, PANEL_CODE, CLIENT_CODE };
 
@@ -36,7 +39,7 @@ static struct told ask(int32_t kind, int32_t a, int32_t b, int32_t c, int32_t d,
     uint8_t record[BREDONYCH_REQUEST], answer[BREDONYCH_ANSWER];
     for (int i = 0; i < BREDONYCH_REQUEST; i++)
         record[i] = (uint8_t)((uint32_t)words[i / 4] >> (8 * (i % 4)) & 255u);
-    uint32_t verdict = kernel_step(image, sizeof image, areas, sizeof areas, record, sizeof record, answer, sizeof answer);
+    uint32_t verdict = kernel_step(EDITION, image, sizeof image, areas, sizeof areas, record, sizeof record, answer, sizeof answer);
     if (verdict != BREDONYCH_ACCEPTED) {
         printf("refused by %u\n", (unsigned)verdict);
         exit(1);
@@ -140,7 +143,7 @@ static struct told run(struct told told)
 
 int main(void)
 {
-    if (kernel_start(16, CLIENT_CODE, image, sizeof image) != BREDONYCH_ACCEPTED)
+    if (kernel_start(EDITION, 16, CLIENT_CODE, image, sizeof image) != BREDONYCH_ACCEPTED)
         return 1;
     printf("a kernel starts: task 1 is the client, of entry number %d\n", CLIENT_CODE);
     struct told told = {CLIENT, BREDONYCH_NOTHING, 0, 0, BREDONYCH_WHOLE};

@@ -1,12 +1,13 @@
 /* A unit that is updated. What it stored has the old form, 640 bytes without entry numbers, and a meter task waits in it; the new host
  * takes the new form alone. So the image is converted, once, and the run goes on where it stood: the tasks of then have entry number 0,
- * and a new one is given a number. Then what is refused, and that a refusal leaves the buffer that was to be written as it is. */
+ * and a new one is given a number. What was stored before there were editions is of the first one. Then what is refused, and that a
+ * refusal leaves the buffer that was to be written as it is. */
 #include <stdio.h>
 #include <stdlib.h>
 #include <string.h>
 #include "bredonych.h"
 
-enum { PANEL = 1, METER = 2, LOGGER = 3, LOGGER_CODE = 7, UNTOUCHED = 0xa5 };
+enum { PANEL = 1, METER = 2, LOGGER = 3, LOGGER_CODE = 7, UNTOUCHED = 0xa5, EDITION = BREDONYCH_ONE_WAITS };
 
 static uint8_t stored[BREDONYCH_OLD_IMAGE], image[BREDONYCH_IMAGE], areas[BREDONYCH_AREAS];
 
@@ -29,7 +30,7 @@ static uint32_t step(uint8_t *on, uint64_t length, const int32_t words[6], uint8
     uint8_t record[BREDONYCH_REQUEST];
     for (int i = 0; i < BREDONYCH_REQUEST; i++)
         record[i] = (uint8_t)((uint32_t)words[i / 4] >> (8 * (i % 4)) & 255u);
-    return kernel_step(on, length, areas, sizeof areas, record, sizeof record, answer, BREDONYCH_ANSWER);
+    return kernel_step(EDITION, on, length, areas, sizeof areas, record, sizeof record, answer, BREDONYCH_ANSWER);
 }
 
 /* A step that has to go well, said. */
@@ -50,11 +51,11 @@ static void entry_of(const char *name, uint32_t tid)
 }
 
 /* A conversion that has to be refused, and to leave every byte of its buffer. */
-static void refused(const char *what, const uint8_t *from, uint64_t from_length, uint64_t to_length, uint32_t due)
+static void refused(const char *what, uint32_t edition, const uint8_t *from, uint64_t from_length, uint64_t to_length, uint32_t due)
 {
     uint8_t out[BREDONYCH_IMAGE];
     memset(out, UNTOUCHED, sizeof out);
-    uint32_t verdict = kernel_convert(from, from_length, out, to_length);
+    uint32_t verdict = kernel_convert(edition, from, from_length, out, to_length);
     int kept = 1;
     for (size_t i = 0; i < sizeof out; i++)
         kept = kept && out[i] == UNTOUCHED;
@@ -67,10 +68,10 @@ static void refused(const char *what, const uint8_t *from, uint64_t from_length,
  * in the old form, as the host of then had it. */
 static void before(void)
 {
-    must("the start", kernel_start(16, 0, image, sizeof image));
+    must("the start", kernel_start(EDITION, 16, 0, image, sizeof image));
     goes("the panel makes a meter", BREDONYCH_CREATE, 8, 0, 0, 0, 0);
     goes("the meter waits for a question", BREDONYCH_RECEIVE, 0, 4, 0, 0, 0);
-    must("to store it", kernel_convert(image, sizeof image, stored, sizeof stored));
+    must("to store it", kernel_convert(EDITION, image, sizeof image, stored, sizeof stored));
     printf("the unit stores %u bytes and is updated\n", (unsigned)sizeof stored);
     memset(image, UNTOUCHED, sizeof image);
 }
@@ -80,7 +81,7 @@ static void after(void)
     uint8_t answer[BREDONYCH_ANSWER];
     uint32_t verdict = step(stored, sizeof stored, (const int32_t[6]){BREDONYCH_MY_TID}, answer);
     printf("a step of the old form: refused by %u\n", (unsigned)verdict);
-    must("to convert it", kernel_convert(stored, sizeof stored, image, sizeof image));
+    must("to convert it", kernel_convert(EDITION, stored, sizeof stored, image, sizeof image));
     printf("converted to %u bytes\n", (unsigned)sizeof image);
     entry_of("the panel", PANEL);
     entry_of("the meter", METER);
@@ -94,12 +95,13 @@ static void refusals(void)
     uint8_t damaged[BREDONYCH_OLD_IMAGE];
     memcpy(damaged, stored, sizeof damaged);
     damaged[1] = BREDONYCH_PRIORITIES; /* the panel's priority */
-    refused("an image of 639 bytes", stored, sizeof stored - 1, sizeof image, BREDONYCH_BAD_IMAGE);
-    refused("a buffer of 767 bytes", stored, sizeof stored, sizeof image - 1, BREDONYCH_BAD_IMAGE);
-    refused("an image in which the panel has priority 32", damaged, sizeof damaged, sizeof image, BREDONYCH_BAD_TABLE);
-    refused("the way back, with a logger", image, sizeof image, sizeof stored, BREDONYCH_ENTRY_LOST);
+    refused("edition 3, of an image of 639 bytes", 3, stored, sizeof stored - 1, sizeof image, BREDONYCH_BAD_EDITION);
+    refused("an image of 639 bytes", EDITION, stored, sizeof stored - 1, sizeof image, BREDONYCH_BAD_IMAGE);
+    refused("a buffer of 767 bytes", EDITION, stored, sizeof stored, sizeof image - 1, BREDONYCH_BAD_IMAGE);
+    refused("an image in which the panel has priority 32", EDITION, damaged, sizeof damaged, sizeof image, BREDONYCH_BAD_TABLE);
+    refused("the way back, with a logger", EDITION, image, sizeof image, sizeof stored, BREDONYCH_ENTRY_LOST);
     goes("the logger exits", BREDONYCH_EXIT, 0, 0, 0, 0, 0);
-    refused("the way back, with a logger that has exited", image, sizeof image, sizeof stored, BREDONYCH_ENTRY_LOST);
+    refused("the way back, with a logger that has exited", EDITION, image, sizeof image, sizeof stored, BREDONYCH_ENTRY_LOST);
 }
 
 int main(void)

@@ -35,14 +35,14 @@ static bool has_entry(const struct table *k)
 
 /* The rules are those of one table, whichever form it comes in; so they are
    asked of the newest form alone, and out is not touched before. */
-static uint32_t convert(const uint8_t *image, uint32_t image_slot,
-                        uint8_t *out, uint32_t out_slot)
+static uint32_t convert(uint32_t edition, const uint8_t *image,
+                        uint32_t image_slot, uint8_t *out, uint32_t out_slot)
 {
     uint8_t newest[IMAGE_BYTES];
     struct table k;
 
     records_copy(image, image_slot, newest, SLOT_BYTES);
-    if (!table_read(&k, newest))
+    if (!table_read(&k, edition, newest))
         return REFUSED_TABLE;
     if (out_slot == OLD_SLOT_BYTES && has_entry(&k))
         return REFUSED_ENTRY; /* the old form has no room for it */
@@ -50,14 +50,20 @@ static uint32_t convert(const uint8_t *image, uint32_t image_slot,
     return 0;
 }
 
-uint32_t peer_convert(const uint8_t *image, uint64_t image_len,
-                      uint8_t *out, uint64_t out_len)
+uint32_t peer_convert(uint32_t edition, const uint8_t *image,
+                      uint64_t image_len, uint8_t *out, uint64_t out_len)
 {
     uint32_t image_slot = slot_of(image_len), out_slot = slot_of(out_len);
-    uint32_t refusal = REFUSED_IMAGE;
+    uint32_t refusal;
 
-    if (image_slot != 0 && out_slot != 0)
-        refusal = convert(image, image_slot, out, out_slot);
+    MARK_CONVERTING(edition);
+    if (!edition_is_good(edition))
+        refusal = REFUSED_EDITION;
+    else if (image_slot == 0 || out_slot == 0)
+        refusal = REFUSED_IMAGE;
+    else
+        refusal = convert(edition, image, image_slot, out, out_slot);
     MARK_CONVERTED(image, image_len, out, out_len, refusal);
+    MARK_CONVERTED_BY(edition, image, image_len, out_len, refusal);
     return refusal;
 }

@@ -31,6 +31,7 @@ static void set_form(bool old)
 static void put_both(void)
 {
     garbage(&bytes_seed, to.bytes, to.length);
+    put_word(given_edition);
     put_chunk(&from);
     put_chunk(&to);
 }
@@ -40,7 +41,8 @@ static void put_both(void)
 static void put_back(void)
 {
     uint32_t length = from.length;
-    if (peer_convert(from.bytes, length, to.bytes, to.length) != 0)
+    if (peer_convert(given_edition, from.bytes, length, to.bytes,
+                     to.length) != 0)
         return;
     memcpy(from.bytes, to.bytes, to.length);
     from.length = to.length;
@@ -287,11 +289,12 @@ static void few_entries(uint64_t *s)
               style == 2 ? 1 : style == 3 ? 1u << 31 : entry);
 }
 
-static void drawn(struct world *run, uint64_t *s)
+static void drawn(struct world *runs, uint64_t *s)
 {
     uint32_t roll = below(s, 100), more = 1 + below(s, 3);
     bool old = chance(s, 50), to_old = chance(s, 50);
-    base_image(run, s, image);
+    given_edition = some_edition(s);
+    base_image(runs, s, image_edition(s, given_edition), image);
     if (chance(s, 65))
         image_clear(image);
     if (chance(s, 12))
@@ -311,11 +314,11 @@ static void drawn(struct world *run, uint64_t *s)
 
 int converts_drawn(uint64_t seed, unsigned long count)
 {
-    static struct world run;
-    uint64_t s = seed, first = draw(&s);
+    static struct world runs[2];
+    uint64_t s = seed;
     bytes_seed = draw(&s);
-    world_start(&run, first, FIRST_PRIORITY, 0);
+    runs_start(runs, &s, false);
     for (unsigned long i = 0; i < count; i++)
-        drawn(&run, &s);
+        drawn(runs, &s);
     return 0;
 }

@@ -6,18 +6,18 @@
 #include <string.h>
 
 unsigned long cover_paths[PATHS];
-unsigned long cover_rules[RULES][8];
+unsigned long cover_rules[EDITIONS][RULES][8];
 unsigned long cover_ways[RULES][WAYS];
 unsigned cover_rule, cover_state;
 
 #define TEXT(name, text) text,
 static const char *const path_text[] = {COVER_PATHS(TEXT)};
 #undef TEXT
-#define TEXT(name, mask, text) text,
+#define TEXT(name, first, second, text) text,
 static const char *const rule_text[] = {COVER_RULES(TEXT)};
 #undef TEXT
-#define MASK(name, mask, text) mask,
-static const unsigned rule_mask[] = {COVER_RULES(MASK)};
+#define MASK(name, first, second, text) {first, second},
+static const unsigned rule_mask[][EDITIONS] = {COVER_RULES(MASK)};
 #undef MASK
 
 static const char *const state_text[] = {
@@ -31,6 +31,17 @@ static FILE *counts(const char *mode)
     return name ? fopen(name, mode) : NULL;
 }
 
+/* By edition, rule and state, in one row. */
+static unsigned long *rule_count(int i)
+{
+    return &cover_rules[i / 8 / RULES][i / 8 % RULES][i % 8];
+}
+
+static bool rule_wanted(int i)
+{
+    return rule_mask[i / 8 % RULES][i / 8 / RULES] >> i % 8 & 1;
+}
+
 void cover_load(void)
 {
     unsigned long n;
@@ -39,8 +50,8 @@ void cover_load(void)
         return;
     for (int i = 0; i < PATHS && fscanf(f, "%lu", &n) == 1; i++)
         cover_paths[i] += n;
-    for (int i = 0; i < RULES * 8 && fscanf(f, "%lu", &n) == 1; i++)
-        cover_rules[i / 8][i % 8] += n;
+    for (int i = 0; i < EDITIONS * RULES * 8 && fscanf(f, "%lu", &n) == 1; i++)
+        *rule_count(i) += n;
     for (int i = 0; i < RULES * WAYS && fscanf(f, "%lu", &n) == 1; i++)
         cover_ways[i / WAYS][i % WAYS] += n;
     fclose(f);
@@ -53,8 +64,8 @@ void cover_save(void)
         return;
     for (int i = 0; i < PATHS; i++)
         fprintf(f, "%lu\n", cover_paths[i]);
-    for (int i = 0; i < RULES * 8; i++)
-        fprintf(f, "%lu\n", cover_rules[i / 8][i % 8]);
+    for (int i = 0; i < EDITIONS * RULES * 8; i++)
+        fprintf(f, "%lu\n", *rule_count(i));
     for (int i = 0; i < RULES * WAYS; i++)
         fprintf(f, "%lu\n", cover_ways[i / WAYS][i % WAYS]);
     fclose(f);
@@ -70,22 +81,23 @@ static int print_paths(void)
     return missed;
 }
 
-static int print_rules(void)
+static int print_rules(int edition)
 {
     int missed = 0;
-    printf("\nimages refused by 2, by rule and by state of the record\n%-28s",
-           "");
+    printf("\nimages refused by 2 in edition %d, by rule and by state of the "
+           "record\n%-28s", edition + 1, "");
     for (int s = 0; s < 8; s++)
         printf(" %7s", state_text[s]);
     printf("\n");
     for (int i = 0; i < RULES; i++) {
         printf("%-28s", rule_text[i]);
         for (int s = 0; s < 8; s++) {
-            if (rule_mask[i] >> s & 1) {
-                printf(" %7lu", cover_rules[i][s]);
-                missed += cover_rules[i][s] == 0;
+            int at = (edition * RULES + i) * 8 + s;
+            if (rule_wanted(at)) {
+                printf(" %7lu", *rule_count(at));
+                missed += *rule_count(at) == 0;
             } else {
-                printf(" %7s", cover_rules[i][s] ? "?" : "-");
+                printf(" %7s", *rule_count(at) ? "?" : "-");
             }
         }
         printf("\n");
@@ -115,15 +127,17 @@ static int print_ways(void)
 static int cover_print(void)
 {
     int missed = print_paths();
-    missed += print_rules();
+    missed += print_rules(0);
+    missed += print_rules(1);
     missed += print_ways();
     for (int i = 0; i < PATHS; i++)
         if (cover_paths[i] == 0)
             printf("never reached: %s\n", path_text[i]);
-    for (int i = 0; i < RULES * 8; i++)
-        if (rule_mask[i / 8] >> i % 8 & 1 && cover_rules[i / 8][i % 8] == 0)
-            printf("never reached: rule \"%s\", state %s\n",
-                   rule_text[i / 8], state_text[i % 8]);
+    for (int i = 0; i < EDITIONS * RULES * 8; i++)
+        if (rule_wanted(i) && *rule_count(i) == 0)
+            printf("never reached: edition %d, rule \"%s\", state %s\n",
+                   i / 8 / RULES + 1, rule_text[i / 8 % RULES],
+                   state_text[i % 8]);
     for (int i = 0; i < RULES * WAYS; i++)
         if (cover_ways[i / WAYS][i % WAYS] == 0)
             printf("never reached: rule \"%s\", conversion %s\n",
@@ -198,6 +212,7 @@ void cover_forget(void)
 {
     memset(past, 0, sizeof past);
     cover_cut_forget();
+    cover_event_forget();
 }
 
 /* One sender, and those who stand behind it in the queue. */
@@ -304,6 +319,7 @@ void cover_taken(const struct table *k)
     bool sending = false, exited = false;
     cover_cut_taken(k);
     cover_entry_taken(k);
+    cover_event_taken(k);
     for (uint32_t tid = 1; tid <= k->used; tid++) {
         const struct task *t = &k->task[tid];
         enum state target;

@@ -6,6 +6,7 @@
 #ifndef PEER_COVER_H
 #define PEER_COVER_H
 
+#include "cover_event.h"
 #include "cover_paths.h"
 
 #define COVER_PATHS(X) \
@@ -26,10 +27,6 @@
     X(ORDER_3_4, "refusal 3 while idle") \
     X(ORDER_4_9, "refusal 4 where 9 holds too") \
     X(IDLE_8, "refusal 8 while idle") \
-    X(START_OK, "start") \
-    X(START_6, "refusal 6 of a start") \
-    X(START_6_7, "refusal 6 of a start where 7 holds too") \
-    X(START_7, "refusal 7 of a start") \
     X(STEP_UNUSED, "refusal 2 of the all-unused table (self test)") \
     X(WRITE_UNUSED, "the all-unused table not written (self test)") \
     X(END_R5, "run ending in an incomplete record") \
@@ -82,16 +79,6 @@
     X(REPLY_CUT, "Reply cut") \
     X(REPLY_ZERO, "Reply, delivery of no bytes") \
     X(REPLY_EQUAL, "Reply between equal priorities") \
-    X(AWAIT_OK, "AwaitEvent waiting") \
-    X(AWAIT_RANGE, "AwaitEvent -1") \
-    X(AWAIT_TAKEN, "AwaitEvent -3") \
-    X(EVENT_WAKES_ACTIVE, "Event with waiter, a task active") \
-    X(EVENT_WAKES_IDLE, "Event with waiter, idle") \
-    X(EVENT_NONE_ACTIVE, "Event without waiter, a task active") \
-    X(EVENT_NONE_IDLE, "Event without waiter, idle") \
-    X(EVENT_TURNS, "Event without waiter, another task goes on") \
-    X(EVENT_DATA, "Event giving a value") \
-    X(EVENT_CORRUPT, "Event data negative, -2") \
     X(WRITE_OWN, "Own write") \
     X(END_BUFFER, "offset 256 with length 0 taken as good") \
     X(SHOW_NOTHING, "shown: task with no result") \
@@ -103,55 +90,57 @@
     DOOR_PATHS(X) \
     ENTRY_PATHS(X) \
     CONVERT_PATHS(X) \
+    EVENT_PATHS(X) \
     CLOCK_PATHS(X)
 
-/* Rules of a table; the mask says for which states of the record at fault a
- * break can be met (bit 0 unused up to bit 7 exited). The two last are asked
+/* Rules of a table; the masks say for which states of the record at fault a
+ * break can be met by edition 1 and by edition 2 (bit 0 unused up to bit 7
+ * exited). The two last are asked
  * last, so that they count images that break no other rule. */
 #define COVER_RULES(X) \
-    X(RULE_NO_TASK, 0x01, "no used slot") \
-    X(RULE_FIRST_RUN, 0xFE, "used slot after an unused one") \
-    X(RULE_UNUSED, 0x01, "unused record not zero") \
-    X(RULE_STATE, 0x01, "state out of range") \
-    X(RULE_PRIORITY, 0xFE, "priority out of range") \
-    X(RULE_PARENT_FIRST, 0xFE, "parent of tid 1 not 0") \
-    X(RULE_PARENT_NONE, 0xFE, "parent of another is 0") \
-    X(RULE_PARENT_LATE, 0xFE, "parent not below tid") \
-    X(RULE_PLACE_UNUSED, 0xEA, "unused place not zero") \
-    X(RULE_NAME_UNUSED, 0xAE, "unused byte 4 not zero") \
-    X(RULE_MESSAGE_BAD, 0x18, "message buffer bad") \
-    X(RULE_MESSAGE_OFFSET, 0xE6, "unused message offset") \
-    X(RULE_MESSAGE_LENGTH, 0xE6, "unused message length") \
-    X(RULE_REPLY_BAD, 0x30, "reply buffer bad") \
-    X(RULE_REPLY_OFFSET, 0xCE, "unused reply offset") \
-    X(RULE_REPLY_LENGTH, 0xCE, "unused reply length") \
-    X(RULE_RESULT_KIND, 0xFE, "result kind out of range") \
-    X(RULE_RESULT_HELD, 0xFA, "result of a task not ready") \
-    X(RULE_EMPTY_FROM, 0xFE, "from without a result") \
-    X(RULE_EMPTY_VALUE, 0xFE, "value without a result") \
-    X(RULE_VALUE, 0x04, "value negative") \
-    X(RULE_VALUE_FROM, 0x04, "from past the used slots") \
-    X(RULE_FAULT, 0x04, "fault out of range") \
-    X(RULE_FAULT_FROM, 0x04, "fault with a from") \
-    X(RULE_CUT_EMPTY, 0xFE, "cut without a result") \
-    X(RULE_CUT_EMPTY_PAST, 0xFE, "byte 15 past 1, no result") \
-    X(RULE_CUT_FAULT, 0x04, "cut with a fault") \
-    X(RULE_CUT_FAULT_PAST, 0x04, "byte 15 past 1, a fault") \
-    X(RULE_CUT_ODD, 0x04, "byte 15 odd, past 1, a value") \
-    X(RULE_CUT_EVEN, 0x04, "byte 15 even, not 0, a value") \
-    X(RULE_TARGET_NONE, 0x10, "target 0") \
-    X(RULE_TARGET_UNUSED, 0x10, "target not used") \
-    X(RULE_TARGET_SELF, 0x10, "target is itself") \
-    X(RULE_EVENT, 0x40, "event out of range") \
-    X(RULE_EVENT_TWICE, 0x40, "event with two waiters") \
-    X(RULE_PLACE_RANGE, 0x14, "place past any queue") \
-    X(RULE_PLACE_TWICE, 0x14, "two in one place") \
-    X(RULE_PLACE_GAP, 0x14, "gap before a place") \
-    X(RULE_ACTIVE_TWICE, 0x02, "two active tasks") \
-    X(RULE_NONE_ACTIVE, 0x04, "none active, one ready") \
-    X(RULE_WAITING_SENDER, 0x08, "sender queued at a waiter") \
-    X(RULE_EXITED_BEFORE, 0x10, "target exited, the lower tid") \
-    X(RULE_EXITED_BEHIND, 0x10, "target exited, the higher tid")
+    X(RULE_NO_TASK, 0x01, 0x01, "no used slot") \
+    X(RULE_FIRST_RUN, 0xFE, 0xFE, "used slot after an unused one") \
+    X(RULE_UNUSED, 0x01, 0x01, "unused record not zero") \
+    X(RULE_STATE, 0x01, 0x01, "state out of range") \
+    X(RULE_PRIORITY, 0xFE, 0xFE, "priority out of range") \
+    X(RULE_PARENT_FIRST, 0xFE, 0xFE, "parent of tid 1 not 0") \
+    X(RULE_PARENT_NONE, 0xFE, 0xFE, "parent of another is 0") \
+    X(RULE_PARENT_LATE, 0xFE, 0xFE, "parent not below tid") \
+    X(RULE_PLACE_UNUSED, 0xEA, 0xAA, "unused place not zero") \
+    X(RULE_NAME_UNUSED, 0xAE, 0xAE, "unused byte 4 not zero") \
+    X(RULE_MESSAGE_BAD, 0x18, 0x18, "message buffer bad") \
+    X(RULE_MESSAGE_OFFSET, 0xE6, 0xE6, "unused message offset") \
+    X(RULE_MESSAGE_LENGTH, 0xE6, 0xE6, "unused message length") \
+    X(RULE_REPLY_BAD, 0x30, 0x30, "reply buffer bad") \
+    X(RULE_REPLY_OFFSET, 0xCE, 0xCE, "unused reply offset") \
+    X(RULE_REPLY_LENGTH, 0xCE, 0xCE, "unused reply length") \
+    X(RULE_RESULT_KIND, 0xFE, 0xFE, "result kind out of range") \
+    X(RULE_RESULT_HELD, 0xFA, 0xFA, "result of a task not ready") \
+    X(RULE_EMPTY_FROM, 0xFE, 0xFE, "from without a result") \
+    X(RULE_EMPTY_VALUE, 0xFE, 0xFE, "value without a result") \
+    X(RULE_VALUE, 0x04, 0x04, "value negative") \
+    X(RULE_VALUE_FROM, 0x04, 0x04, "from past the used slots") \
+    X(RULE_FAULT, 0x04, 0x04, "fault out of range") \
+    X(RULE_FAULT_FROM, 0x04, 0x04, "fault with a from") \
+    X(RULE_CUT_EMPTY, 0xFE, 0xFE, "cut without a result") \
+    X(RULE_CUT_EMPTY_PAST, 0xFE, 0xFE, "byte 15 past 1, no result") \
+    X(RULE_CUT_FAULT, 0x04, 0x04, "cut with a fault") \
+    X(RULE_CUT_FAULT_PAST, 0x04, 0x04, "byte 15 past 1, a fault") \
+    X(RULE_CUT_ODD, 0x04, 0x04, "byte 15 odd, past 1, a value") \
+    X(RULE_CUT_EVEN, 0x04, 0x04, "byte 15 even, not 0, a value") \
+    X(RULE_TARGET_NONE, 0x10, 0x10, "target 0") \
+    X(RULE_TARGET_UNUSED, 0x10, 0x10, "target not used") \
+    X(RULE_TARGET_SELF, 0x10, 0x10, "target is itself") \
+    X(RULE_EVENT, 0x40, 0x40, "event out of range") \
+    X(RULE_EVENT_TWICE, 0x40, 0x00, "event with two waiters") \
+    X(RULE_PLACE_RANGE, 0x14, 0x54, "place past any queue") \
+    X(RULE_PLACE_TWICE, 0x14, 0x54, "two in one place") \
+    X(RULE_PLACE_GAP, 0x14, 0x54, "gap before a place") \
+    X(RULE_ACTIVE_TWICE, 0x02, 0x02, "two active tasks") \
+    X(RULE_NONE_ACTIVE, 0x04, 0x04, "none active, one ready") \
+    X(RULE_WAITING_SENDER, 0x08, 0x08, "sender queued at a waiter") \
+    X(RULE_EXITED_BEFORE, 0x10, 0x10, "target exited, the lower tid") \
+    X(RULE_EXITED_BEHIND, 0x10, 0x10, "target exited, the higher tid")
 
 #ifdef COVER
 #include "clock.h"
@@ -160,12 +149,13 @@
 #define COVER_NAME(name, text) name,
 enum cover_path { COVER_PATHS(COVER_NAME) PATHS };
 #undef COVER_NAME
-#define COVER_NAME(name, mask, text) name,
+#define COVER_NAME(name, first, second, text) name,
 enum cover_rule { COVER_RULES(COVER_NAME) RULES };
 #undef COVER_NAME
 
 extern unsigned long cover_paths[PATHS];
-extern unsigned long cover_rules[RULES][8];
+enum { EDITIONS = 2 };
+extern unsigned long cover_rules[EDITIONS][RULES][8];
 /* The ways of a conversion, in the order of WAY_PATHS; the rules by them. */
 enum cover_way { WAY_UP, WAY_DOWN, WAY_OLD_OLD, WAY_NEW_NEW, WAYS };
 extern unsigned long cover_ways[RULES][WAYS];
@@ -208,8 +198,10 @@ bool cover_entry_only(const uint8_t *image);
 void cover_entry_bad(const uint8_t *image, struct request q);
 void cover_image(const uint8_t *image, uint64_t length, uint64_t areas);
 void cover_wrong(enum cover_path first, uint64_t length);
-void cover_started(uint32_t refusal, uint32_t entry, uint64_t length);
+void cover_started(uint32_t edition, uint32_t priority, uint32_t entry,
+                   uint64_t length);
 bool cover_unlike(uint32_t entry);
+extern bool cover_asking; /* of what is asked now nothing is counted */
 uint32_t cover_would(const uint8_t *image, bool old);
 void cover_converted(const uint8_t *image, uint64_t image_length,
                      const uint8_t *out, uint64_t out_length,
@@ -275,8 +267,8 @@ void cover_ticked(const struct clock *c, const struct clock_answers *given);
 #define MARK_ENTRY_LEFT(k, q, verdict) cover_entry_left(k, q, verdict)
 #define MARK_ENTRY_BAD(image, q) cover_entry_bad(image, q)
 #define MARK_IMAGE(image, length, areas) cover_image(image, length, areas)
-#define MARK_STARTED(refusal, entry, length) \
-    cover_started(refusal, entry, length)
+#define MARK_STARTED(edition, priority, entry, length) \
+    cover_started(edition, priority, entry, length)
 #define MARK_CONVERTED(image, image_length, out, out_length, refusal) \
     cover_converted(image, image_length, out, out_length, refusal)
 
@@ -287,7 +279,12 @@ void cover_ticked(const struct clock *c, const struct clock_answers *given);
 #define MARK_ASK_MORE(n) ((void)(cover_rule += (n)))
 #define MARK_AND_ASK(rule) && (cover_rule = (rule), true)
 #define MARK_EACH_BYTE(byte, is_state) if (cover_byte(byte, is_state))
-#define MARK_RULE() ((void)cover_rules[cover_rule][cover_state]++)
+#define MARK_RULE() \
+    ((void)cover_rules[cover_edition - EDITION_SOLE][cover_rule][cover_state]++)
+#define COVER_PLACE /* the rule asked last is one about places of waiters */ \
+    (cover_state == STATE_EVENT_BLOCKED && \
+     (cover_rule == RULE_PLACE_UNUSED || \
+      (cover_rule >= RULE_EVENT_TWICE && cover_rule <= RULE_PLACE_GAP)))
 
 /* The clock: a record read; a message heard and how it was judged; a sender
  * about to sleep; a tick and its answers. */
@@ -317,7 +314,7 @@ void cover_ticked(const struct clock *c, const struct clock_answers *given);
 #define MARK_ENTRY_LEFT(k, q, verdict) ((void)0)
 #define MARK_ENTRY_BAD(image, q) ((void)0)
 #define MARK_IMAGE(image, length, areas) ((void)0)
-#define MARK_STARTED(refusal, entry, length) ((void)0)
+#define MARK_STARTED(edition, priority, entry, length) ((void)0)
 #define MARK_CONVERTED(image, image_length, out, out_length, refusal) ((void)0)
 #define MARK_MESSAGE(told, receiver, sender, cut) ((void)0)
 #define MARK_REPLY_CUT(replier, sender, cut) ((void)0)

@@ -64,19 +64,23 @@ static void count_back(enum cover_path first, const uint8_t *image,
     memcpy(last.to, out, out_length);
 }
 
-static bool asking; /* of what is asked here nothing is to be counted */
+bool cover_asking;
+
+static uint64_t form(bool old)
+{
+    return old ? OLD_IMAGE_BYTES : IMAGE_BYTES;
+}
 
 /* What would be said of an image of this form, if it were to go into the other
  * and there were room for it. */
 uint32_t cover_would(const uint8_t *image, bool old)
 {
     static uint8_t other[IMAGE_BYTES];
-    bool before = asking;
+    bool before = cover_asking;
     uint32_t refusal;
-    asking = true;
-    refusal = old ? peer_convert(image, OLD_IMAGE_BYTES, other, IMAGE_BYTES)
-                  : peer_convert(image, IMAGE_BYTES, other, OLD_IMAGE_BYTES);
-    asking = before;
+    cover_asking = true;
+    refusal = peer_convert(cover_edition, image, form(old), other, form(!old));
+    cover_asking = before;
     return refusal;
 }
 
@@ -146,7 +150,7 @@ void cover_converted(const uint8_t *image, uint64_t image_length,
                          ? old ? WAY_OLD_OLD : WAY_NEW_NEW
                          : old ? WAY_UP : WAY_DOWN;
     enum cover_path first = UP + way * (DOWN - UP);
-    if (asking)
+    if (cover_asking || refusal == REFUSED_EDITION)
         return;
     if (refusal == REFUSED_IMAGE)
         count_lengths(image, image_length, out_length);

@@ -148,13 +148,14 @@ void cover_answer(uint64_t answer, uint64_t record, const uint8_t *image,
     bool broken;
     if (answer == ANSWER_BYTES)
         return;
-    broken = image_length == IMAGE_BYTES && !table_read(&k, image);
+    broken = image_length == IMAGE_BYTES &&
+             !table_read(&k, cover_edition, image);
     MARK_IF(image_length != IMAGE_BYTES, ORDER_10_7);
     MARK_IF(image_length == OLD_IMAGE_BYTES, IMAGE_OLD_10);
     MARK_IF(areas != AREAS_BYTES, ORDER_10_1);
     MARK_IF(broken, ORDER_10_2);
-    if (broken || record != RECORD_BYTES || image_length != IMAGE_BYTES ||
-        areas != AREAS_BYTES) {
+    if (broken || !cover_is_edition || record != RECORD_BYTES ||
+        image_length != IMAGE_BYTES || areas != AREAS_BYTES) {
         MARK_IF(answer == OLD_ANSWER, ANSWER_OLD_MORE);
         return;
     }

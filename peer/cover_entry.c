@@ -83,7 +83,7 @@ bool cover_entry_only(const uint8_t *image)
         any = any || get32(copy + i + AT_ENTRY) != 0;
         put32(copy + i + AT_ENTRY, 0);
     }
-    return any && table_read(&k, copy);
+    return any && table_read(&k, cover_edition, copy);
 }
 
 /* An image refused by 2, and what else would have refused the step. */
@@ -134,9 +134,13 @@ void cover_image(const uint8_t *image, uint64_t length, uint64_t areas)
     MARK_IF(old && cover_would(image, true) == 0, IMAGE_OLD_GOOD);
 }
 
-void cover_started(uint32_t refusal, uint32_t entry, uint64_t length)
+void cover_started(uint32_t edition, uint32_t priority, uint32_t entry,
+                   uint64_t length)
 {
-    if (refusal != 0) {
+    cover_started_by(edition, priority, length);
+    if (!edition_is_good(edition))
+        return;
+    if (priority >= PRIORITIES) {
         MARK_IF(entry != 0, START_6_ENTRY);
         MARK_IF(length == OLD_IMAGE_BYTES, START_6_OLD);
     } else if (length != IMAGE_BYTES) {

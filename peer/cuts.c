@@ -92,7 +92,7 @@ static void exchange(uint32_t n, bool queued)
 int cuts_run(uint32_t pattern)
 {
     static const uint32_t server[] = {8, 16, 24, 16}, third[] = {4, 16, 30, 24};
-    stream_start();
+    stream_start(EDITION_SOLE);
     step(KIND_CREATE, server[pattern % 4], pattern, 0, 0, 0);
     let_run(CLIENT);
     step(KIND_CREATE, third[pattern % 4], entry_of(pattern), 0, 0, 0);

@@ -2,20 +2,10 @@
 #include <stddef.h>
 #include <string.h>
 
-#include "images.h"
+#include "damage.h"
 #include "pick.h"
 
-enum {
-    ANY = 0xFE,
-    IS_ACTIVE = 1 << STATE_ACTIVE, IS_READY = 1 << STATE_READY,
-    IS_WAITING = 1 << STATE_SEND_BLOCKED,
-    IS_SENDING = 1 << STATE_RECEIVE_BLOCKED,
-    IS_REPLY = 1 << STATE_REPLY_BLOCKED, IS_EVENT = 1 << STATE_EVENT_BLOCKED,
-    IS_EXITED = 1 << STATE_EXITED
-};
-
-/* A slot in one of the states; each state gets the same chance first. */
-static uint8_t *find(uint64_t *s, uint8_t *image, unsigned states)
+uint8_t *find(uint64_t *s, uint8_t *image, unsigned states)
 {
     unsigned state = 1 + below(s, 7);
     uint32_t start = below(s, TASKS);
@@ -31,14 +21,14 @@ static uint8_t *find(uint64_t *s, uint8_t *image, unsigned states)
     return any;
 }
 
-static bool in_one_queue(const uint8_t *a, const uint8_t *b)
+bool in_one_queue(const uint8_t *a, const uint8_t *b)
 {
     return a[0] == b[0] && ((a[0] == STATE_READY && a[1] == b[1]) ||
-                            (a[0] == STATE_RECEIVE_BLOCKED && a[4] == b[4]));
+                            (a[0] != STATE_READY && is_queued(a[0]) &&
+                             a[4] == b[4]));
 }
 
-/* Those behind move up. */
-static void leave_queue(uint8_t *image, const uint8_t *b)
+void leave_queue(uint8_t *image, const uint8_t *b)
 {
     for (uint32_t i = 0; i < TASKS; i++) {
         uint8_t *other = slot(image, i);
@@ -353,6 +343,7 @@ void image_damage(uint64_t *s, uint8_t *image)
     static void (*const damage[])(uint64_t *, uint8_t *) = {
         damage_field, damage_field, damage_field, damage_result,
         damage_result, damage_cut, damage_cut, damage_entry, damage_parent,
-        damage_name, damage_place, damage_whole, damage_target, damage_rough};
+        damage_name, damage_place, damage_whole, damage_target, damage_rough,
+        damage_waiters, damage_waiters};
     damage[below(s, sizeof damage / sizeof damage[0])](s, image);
 }

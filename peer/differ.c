@@ -65,6 +65,12 @@ static bool get_word(FILE *f, uint32_t *n)
     return true;
 }
 
+static bool skip_chunk(FILE *in)
+{
+    uint32_t length;
+    return get_word(in, &length) && fseek(in, (long)length, SEEK_CUR) == 0;
+}
+
 static void get_outcome(FILE *f, const struct form *form, struct outcome *o)
 {
     memset(o, 0, sizeof *o);
@@ -116,15 +122,21 @@ static void tell(const struct form *form, const struct outcome *peer,
                                    : "the peer gave nothing whole");
 }
 
+/* Only the input says which edition was given; there the chunks are as many. */
 static int outcomes(const char *what, const struct form *form, FILE *a,
-                    FILE *b)
+                    FILE *b, FILE *in)
 {
     static struct outcome peer, other;
     for (unsigned long number = 1;; number++) {
+        uint32_t edition = 0;
+        get_word(in, &edition);
+        for (int i = 0; i < form->chunks; i++)
+            skip_chunk(in);
         get_outcome(a, form, &peer);
         get_outcome(b, form, &other);
         if (memcmp(&peer, &other, sizeof peer) != 0) {
-            printf("%s %lu: ", what, number);
+            printf("%s %lu, edition %lu: ", what, number,
+                   (unsigned long)edition);
             if (form == &convert_form)
                 printf("lengths %lu and %lu: ", (unsigned long)peer.length[0],
                        (unsigned long)peer.length[1]);
@@ -136,14 +148,18 @@ static int outcomes(const char *what, const struct form *form, FILE *a,
     }
 }
 
-/* How many whole cases or conversions there are, as input. */
+/* How many whole cases or conversions there are, as input: each is a word and
+ * so many chunks. */
 static int count(const char *each, FILE *in)
 {
-    unsigned long chunks = 0;
-    uint32_t length;
-    while (get_word(in, &length) && fseek(in, (long)length, SEEK_CUR) == 0)
-        chunks++;
-    printf("%lu\n", chunks / strtoul(each, NULL, 10));
+    unsigned long chunks = strtoul(each, NULL, 10), read = chunks, records = 0;
+    uint32_t edition;
+    while (read == chunks && get_word(in, &edition)) {
+        for (read = 0; read < chunks && skip_chunk(in); read++)
+            ;
+        records += read == chunks;
+    }
+    printf("%lu\n", records);
     return 0;
 }
 
@@ -170,16 +186,18 @@ static int after_last(const char *what, FILE *a, FILE *b)
 static int starts(FILE *a, FILE *b, FILE *in)
 {
     static struct outcome peer, other;
-    uint32_t priority, entry, length;
-    for (unsigned long number = 1; get_word(in, &priority) &&
+    uint32_t edition, priority, entry, length;
+    for (unsigned long number = 1; get_word(in, &edition) &&
+                                   get_word(in, &priority) &&
                                    get_word(in, &entry) &&
                                    get_word(in, &length) && length <= CHUNK;
          number++) {
         get_started(a, length, &peer);
         get_started(b, length, &other);
         if (memcmp(&peer, &other, sizeof peer) != 0) {
-            printf("start %lu, priority %lu, entry %lu, length %lu: ",
-                   number, (unsigned long)priority, (unsigned long)entry,
+            printf("start %lu, edition %lu, priority %lu, entry %lu, "
+                   "length %lu: ", number, (unsigned long)edition,
+                   (unsigned long)priority, (unsigned long)entry,
                    (unsigned long)length);
             tell(&start_form, &peer, &other);
             return 1;
@@ -257,16 +275,16 @@ int main(int argc, char **argv)
         return count(argv[2], b);
     if (argc == 4 && a && b && strcmp(argv[1], "lines") == 0)
         return lines(a, b);
-    if (argc == 4 && a && b && strcmp(argv[1], "cases") == 0)
-        return outcomes("case", &case_form, a, b);
-    if (argc == 4 && a && b && strcmp(argv[1], "converts") == 0)
-        return outcomes("conversion", &convert_form, a, b);
+    if (a && b && in && strcmp(argv[1], "cases") == 0)
+        return outcomes("case", &case_form, a, b, in);
+    if (a && b && in && strcmp(argv[1], "converts") == 0)
+        return outcomes("conversion", &convert_form, a, b, in);
     if (a && b && in && strcmp(argv[1], "starts") == 0)
         return starts(a, b, in);
     if (a && b && in && strcmp(argv[1], "clocks") == 0)
         return clocks(a, b, in);
-    fputs("usage: differ lines|cases|converts PEER OTHER\n"
-          "       differ starts|clocks PEER OTHER INPUT\n"
+    fputs("usage: differ lines PEER OTHER\n"
+          "       differ cases|converts|starts|clocks PEER OTHER INPUT\n"
           "       differ count CHUNKS-OF-EACH INPUT\n", stderr);
     return 2;
 }

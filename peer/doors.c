@@ -81,7 +81,7 @@ static void gather(uint32_t door, uint32_t last)
 int doors_run(uint32_t pattern)
 {
     uint32_t last = 0;
-    stream_start();
+    stream_start(EDITION_SOLE);
     while (k->used < TASKS)
         step(KIND_CREATE, priority_of(pattern, k->used + 1),
              listed_entry(k->used), 0, 0, 0);

@@ -47,7 +47,7 @@ uint32_t some_entry(uint64_t *s)
 int entries_run(uint32_t pattern)
 {
     const struct table *k = &followed;
-    stream_start();
+    stream_start(EDITION_SOLE);
     for (uint32_t n = 0; k->used < TASKS; n++) {
         uint32_t priority = pattern % 2 ? n % PRIORITIES : PRIORITIES - 1 - n;
         step(KIND_CREATE, priority, listed_entry(n + pattern), n, ~n, 1);

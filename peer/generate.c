@@ -25,7 +25,8 @@ void put_request(const struct request *q)
 
 static int requests(uint64_t seed, unsigned long steps)
 {
-    world_start(&world, seed, FIRST_PRIORITY, 0);
+    uint64_t s = seed;
+    world_start(&world, seed, EDITION_SOLE + below(&s, 2), FIRST_PRIORITY, 0);
     for (unsigned long i = 0; i < steps; i++) {
         struct request q = world_live(&world);
         table_step(&world.table, world.areas, &q);
@@ -39,10 +40,10 @@ static int requests(uint64_t seed, unsigned long steps)
 struct table followed;
 static uint8_t followed_areas[AREAS_BYTES];
 
-void stream_start(void)
+void stream_start(uint32_t edition)
 {
     memset(followed_areas, 0, sizeof followed_areas);
-    table_start(&followed, FIRST_PRIORITY, 0);
+    table_start(&followed, edition, FIRST_PRIORITY, 0);
 }
 
 void step(int32_t kind, uint32_t a, uint32_t b, uint32_t c, uint32_t d,
@@ -59,11 +60,18 @@ void step(int32_t kind, uint32_t a, uint32_t b, uint32_t c, uint32_t d,
 const uint32_t right_lengths[CHUNKS] = {IMAGE_BYTES, AREAS_BYTES,
                                         RECORD_BYTES, ANSWER_BYTES};
 
+uint32_t given_edition = EDITION_SOLE;
+
+void put_word(uint32_t word)
+{
+    uint8_t b[4];
+    put32(b, word);
+    fwrite(b, 1, sizeof b, stdout);
+}
+
 void put_chunk(const struct chunk *c)
 {
-    uint8_t b[4] = {(uint8_t)c->length, (uint8_t)(c->length >> 8),
-                    (uint8_t)(c->length >> 16), (uint8_t)(c->length >> 24)};
-    fwrite(b, 1, sizeof b, stdout);
+    put_word(c->length);
     fwrite(c->bytes, 1, c->length, stdout);
 }
 
@@ -76,17 +84,30 @@ void garbage(uint64_t *s, uint8_t *to, uint32_t length)
     }
 }
 
-/* An image from the middle of a run, or one no run need lead to. */
-void base_image(struct world *run, uint64_t *s, uint8_t *image)
+/* One run for each edition. */
+void runs_start(struct world *runs, uint64_t *s, bool entries)
 {
+    for (uint32_t edition = EDITION_SOLE; edition <= EDITION_CROWD; edition++) {
+        uint64_t seed = draw(s);
+        uint32_t entry = some_entry(s);
+        world_start(&runs[edition - EDITION_SOLE], seed, edition,
+                    FIRST_PRIORITY, entries ? entry : 0);
+    }
+}
+
+/* An image from the middle of a run, or one no run need lead to. */
+void base_image(struct world *runs, uint64_t *s, uint32_t edition,
+                uint8_t *image)
+{
+    struct world *run = &runs[edition - EDITION_SOLE];
     uint32_t priority = below(s, PRIORITIES);
     if (chance(s, 50)) {
-        image_invent(s, image);
+        image_invent(s, edition, image);
         return;
     }
     if (world_dead(&run->table) || chance(s, 1)) {
         uint64_t seed = draw(s);
-        world_start(run, seed, priority, some_entry(s));
+        world_start(run, seed, edition, priority, some_entry(s));
     }
     for (uint32_t i = 1 + below(s, 6); i > 0; i--) {
         struct request q = world_live(run);
@@ -140,16 +161,11 @@ static void wrong_lengths(uint64_t *s, struct chunk *c)
             wrong_length(s, &c[i], right_lengths[i]);
 }
 
-static void one_case(struct world *run, uint64_t *s)
+/* A request that fits the image, which is good by this edition. */
+static struct request case_request(uint64_t *s, uint32_t edition,
+                                   const uint8_t *image)
 {
-    static struct chunk c[CHUNKS];
-    uint32_t roll = below(s, 100);
-    for (int i = 0; i < CHUNKS; i++) {
-        c[i].length = right_lengths[i];
-        garbage(s, c[i].bytes, right_lengths[i] + 64);
-    }
-    base_image(run, s, c[IMAGE_CHUNK].bytes);
-    if (!table_read(&world.table, c[IMAGE_CHUNK].bytes)) {
+    if (!table_read(&world.table, edition, image)) {
         fputs("generate: a good image was refused\n", stderr);
         exit(1);
     }
@@ -159,6 +175,23 @@ static void one_case(struct world *run, uint64_t *s)
     if (world.table.task[world.table.active].senders.length > 0 &&
         chance(s, 25))
         q.kind = KIND_EXIT;
+    else if (chance(s, 40))
+        world_ring(&world, &q);
+    return q;
+}
+
+static void one_case(struct world *runs, uint64_t *s)
+{
+    static struct chunk c[CHUNKS];
+    uint32_t roll = below(s, 100), given = some_edition(s);
+    uint32_t edition = image_edition(s, given);
+    struct request q;
+    for (int i = 0; i < CHUNKS; i++) {
+        c[i].length = right_lengths[i];
+        garbage(s, c[i].bytes, right_lengths[i] + 64);
+    }
+    base_image(runs, s, edition, c[IMAGE_CHUNK].bytes);
+    q = case_request(s, edition, c[IMAGE_CHUNK].bytes);
     request_write(&q, c[RECORD_CHUNK].bytes);
     if (roll >= 50)
         image_damage(s, c[IMAGE_CHUNK].bytes);
@@ -167,6 +200,7 @@ static void one_case(struct world *run, uint64_t *s)
             image_damage(s, c[IMAGE_CHUNK].bytes);
     if (roll < 6 || roll >= 96)
         wrong_lengths(s, c);
+    put_word(given);
     for (int i = 0; i < CHUNKS; i++)
         put_chunk(&c[i]);
 }
@@ -183,6 +217,7 @@ void put_lengths(const uint8_t *image, const uint32_t *length,
     }
     memcpy(c[IMAGE_CHUNK].bytes, image, IMAGE_BYTES);
     request_write(q, c[RECORD_CHUNK].bytes);
+    put_word(given_edition);
     for (int i = 0; i < CHUNKS; i++)
         put_chunk(&c[i]);
 }
@@ -196,11 +231,11 @@ void put_case(const uint8_t *image, uint32_t areas, const struct request *q)
 
 static int cases(uint64_t seed, unsigned long count)
 {
-    static struct world run;
-    uint64_t s = seed, first = draw(&s);
-    world_start(&run, first, FIRST_PRIORITY, some_entry(&s));
+    static struct world runs[2];
+    uint64_t s = seed;
+    runs_start(runs, &s, true);
     for (unsigned long i = 0; i < count; i++)
-        one_case(&run, &s);
+        one_case(runs, &s);
     return 0;
 }
 
@@ -216,21 +251,29 @@ static int first_run(void)
     return 0;
 }
 
-/* What needs no seed, by its name; of some there are several patterns. */
-static const struct {
+/* What needs no seed, by its name; of some there are several patterns, and some
+ * are given an edition. */
+struct named {
     const char *name;
     int (*make)(void);
-} fixed[] = {
-    {"first-run", first_run}, {"fixed-cases", doors_cases},
-    {"cut-cases", cuts_cases}, {"entry-cases", entries_cases},
-    {"fixed-starts", starts_fixed}, {"fixed-clocks", clocks_fixed},
-    {"fixed-converts", converts_fixed}};
+};
+
+static const struct named fixed[] = {
+    {"first-run", first_run}, {"fixed-starts", starts_fixed},
+    {"fixed-clocks", clocks_fixed}, {"edition-cases", editions_cases},
+    {"edition-converts", editions_converts}};
+
+static const struct named given[] = {
+    {"fixed-cases", doors_cases}, {"cut-cases", cuts_cases},
+    {"entry-cases", entries_cases}, {"event-cases", events_cases},
+    {"rule-cases", rules_cases},
+    {"fixed-converts", converts_fixed}, {"event-converts", events_converts}};
 
 static const struct {
     const char *name;
     int (*make)(uint32_t pattern);
 } patterns[] = {{"fixed-run", doors_run}, {"cut-run", cuts_run},
-              {"entry-run", entries_run}};
+                {"entry-run", entries_run}, {"event-run", events_run}};
 
 static const struct {
     const char *name;
@@ -248,16 +291,28 @@ static int usage(void)
           "       generate converts SEED COUNT [INDEX]\n"
           "       generate first-run\n"
           "       generate fixed-run PATTERN\n"
-          "       generate fixed-cases\n"
+          "       generate fixed-cases EDITION\n"
           "       generate cut-run PATTERN\n"
-          "       generate cut-cases\n"
+          "       generate cut-cases EDITION\n"
           "       generate entry-run PATTERN\n"
-          "       generate entry-cases\n"
+          "       generate entry-cases EDITION\n"
+          "       generate event-run PATTERN\n"
+          "       generate event-cases EDITION\n"
+          "       generate event-converts EDITION\n"
+          "       generate rule-cases EDITION\n"
+          "       generate edition-cases\n"
+          "       generate edition-converts\n"
           "       generate fixed-starts\n"
           "       generate fixed-clocks\n"
-          "       generate fixed-converts\n"
-          "       generate one-start PRIORITY ENTRY LENGTH\n", stderr);
+          "       generate fixed-converts EDITION\n"
+          "       generate words WORD...\n"
+          "       generate one-start EDITION PRIORITY ENTRY LENGTH\n", stderr);
     return 2;
+}
+
+static uint32_t word_of(const char *digits)
+{
+    return (uint32_t)strtoul(digits, NULL, 10);
 }
 
 int main(int argc, char **argv)
@@ -265,13 +320,22 @@ int main(int argc, char **argv)
     for (unsigned i = 0; argc == 2 && i < COUNT(fixed); i++)
         if (strcmp(argv[1], fixed[i].name) == 0)
             return fixed[i].make();
+    for (unsigned i = 0; argc == 3 && i < COUNT(given); i++)
+        if (strcmp(argv[1], given[i].name) == 0) {
+            given_edition = word_of(argv[2]);
+            return given[i].make();
+        }
     for (unsigned i = 0; argc == 3 && i < COUNT(patterns); i++)
         if (strcmp(argv[1], patterns[i].name) == 0)
-            return patterns[i].make((uint32_t)strtoul(argv[2], NULL, 10));
-    if (argc == 5 && strcmp(argv[1], "one-start") == 0)
-        return starts_one((uint32_t)strtoul(argv[2], NULL, 10),
-                          (uint32_t)strtoul(argv[3], NULL, 10),
-                          (uint32_t)strtoul(argv[4], NULL, 10));
+            return patterns[i].make(word_of(argv[2]));
+    for (int i = 2; argc >= 3 && strcmp(argv[1], "words") == 0; i++) {
+        if (i == argc)
+            return 0;
+        put_word(word_of(argv[i]));
+    }
+    if (argc == 6 && strcmp(argv[1], "one-start") == 0)
+        return starts_one(word_of(argv[2]), word_of(argv[3]),
+                          word_of(argv[4]), word_of(argv[5]));
     if (argc == 4 || argc == 5) {
         uint64_t seed = strtoull(argv[2], NULL, 10);
         unsigned long count = strtoul(argv[3], NULL, 10);

@@ -52,19 +52,30 @@ struct world {
     uint32_t crowd;          /* how many it waits for */
     uint32_t patience;       /* steps until it is given up */
     uint32_t least;          /* tasks that doors are to leave */
+    uint32_t flock;          /* percent that wait for what another waits for */
+    uint32_t bells;          /* percent of steps at which a bell is chosen */
+    uint32_t bell;           /* the event that all wait for, */
+    uint32_t hearers;        /* how many of them, 0 for no bell, */
+    uint32_t hope;           /* and steps until it is given up */
 };
 
-void world_start(struct world *w, uint64_t seed, uint32_t priority,
-                 uint32_t entry);
+void world_start(struct world *w, uint64_t seed, uint32_t edition,
+                 uint32_t priority, uint32_t entry);
 void world_habits(struct world *w);
 bool world_dead(const struct table *k);
 struct request world_choose(struct world *w);  /* any request */
 struct request world_live(struct world *w);    /* one that keeps it going */
+void world_fill(struct world *w, struct request *q); /* arguments of its kind */
+void world_ring(struct world *w, struct request *q);
+bool world_exists(const struct table *k, uint32_t tid);
+uint32_t world_living(const struct table *k);
+uint32_t world_some_living(struct world *w);
+uint32_t world_stuck(const struct table *k);
 
 /* The kernel of a stream of the job run, which is followed while its requests
  * go to standard output. */
 extern struct table followed;
-void stream_start(void);
+void stream_start(uint32_t edition);
 void step(int32_t kind, uint32_t a, uint32_t b, uint32_t c, uint32_t d,
           uint32_t e);
 
@@ -92,9 +103,22 @@ struct chunk {
 
 void garbage(uint64_t *s, uint8_t *to, uint32_t length);
 
-/* To standard output: a record; a chunk; a case with chunks of these lengths;
- * one that is whole but for the length of the areas. */
+/* Words to give as an edition: any, mostly one; any that is none; one of a
+ * fixed list that are none; the edition that an image is made for, if it is to
+ * be given with this word. */
+uint32_t some_edition(uint64_t *seed);
+uint32_t some_no_edition(uint64_t *seed);
+uint32_t listed_no_edition(uint32_t n);
+uint32_t image_edition(uint64_t *seed, uint32_t given);
+enum { NO_EDITIONS = 18 };
+
+/* The edition that cases and conversions of fixed lists are given. */
+extern uint32_t given_edition;
+
+/* To standard output: a record; a word; a chunk; a case with chunks of these
+ * lengths; one that is whole but for the length of the areas. */
 void put_request(const struct request *q);
+void put_word(uint32_t word);
 void put_chunk(const struct chunk *c);
 void put_lengths(const uint8_t *image, const uint32_t *length,
                  const struct request *q);
@@ -114,18 +138,32 @@ int cuts_cases(void);
 int entries_run(uint32_t pattern);
 int entries_cases(void);
 
+/* A fixed list of bytes of tasks in each state. */
+int rules_cases(void);
+
+/* Fixed lists about waiters of events: streams, cases and conversions; and
+ * words that are no edition with all that may be wrong beside them. */
+int events_run(uint32_t pattern);
+int events_cases(void);
+int events_converts(void);
+int editions_cases(void);
+int editions_converts(void);
+
 /* Conversions, to standard output: a fixed list, drawn ones. */
 int converts_fixed(void);
 int converts_drawn(uint64_t seed, unsigned long count);
 
-/* Images for cases: a good one from a run or made up, one made up whole, and
- * one thing spoiled. */
-void base_image(struct world *run, uint64_t *s, uint8_t *image);
-void image_invent(uint64_t *seed, uint8_t *image);
+/* Images for cases, by either edition: a good one from the run of this edition
+ * or made up, one made up whole, and one thing spoiled. */
+void runs_start(struct world *runs, uint64_t *s, bool entries);
+void base_image(struct world *runs, uint64_t *s, uint32_t edition,
+                uint8_t *image);
+void image_invent(uint64_t *seed, uint32_t edition, uint8_t *image);
 void image_damage(uint64_t *seed, uint8_t *image);
 
 /* Records of starts, to standard output: any one, a fixed list, drawn ones. */
-int starts_one(uint32_t priority, uint32_t entry, uint32_t length);
+int starts_one(uint32_t edition, uint32_t priority, uint32_t entry,
+               uint32_t length);
 int starts_fixed(void);
 int starts_drawn(uint64_t seed, unsigned long count);
 

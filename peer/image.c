@@ -75,7 +75,7 @@ static bool waits_for_is_good(const struct task *t, uint32_t tid,
 /* Everything about a used slot that its own bytes tell. Its place has a
    meaning only beside the others and is left to queues_read(). */
 static bool task_read(struct task *t, uint32_t tid, const uint8_t *slot,
-                      uint32_t used)
+                      uint32_t used, uint32_t edition)
 {
     MARK_RECORD(STATE_UNUSED);
     MARK_ASK(RULE_STATE);
@@ -92,7 +92,7 @@ static bool task_read(struct task *t, uint32_t tid, const uint8_t *slot,
         && parent_is_good(t->parent, tid)
         && waits_for_is_good(t, tid, used)
         MARK_AND_ASK(RULE_PLACE_UNUSED)
-        && (uses_place(t->state) || slot[AT_PLACE] == 0)
+        && (uses_place(t->state, edition) || slot[AT_PLACE] == 0)
         MARK_AND_ASK(RULE_MESSAGE_BAD)
         && buffer_read(&t->message, slot + AT_MESSAGE, uses_message(t->state))
         MARK_AND_ASK(RULE_REPLY_BAD)
@@ -118,33 +118,43 @@ static uint32_t used_read(const uint8_t *image)
     return used;
 }
 
-/* The tasks one by one, with the two places that only one task may take:
-   being active, and waiting for an event. */
+/* The tasks one by one; only one of them may be active. */
 static bool tasks_read(struct table *k, const uint8_t *image)
 {
     for (uint32_t tid = 1; tid <= k->used; tid++) {
         struct task *t = &k->task[tid];
-        uint32_t *sole = NULL;
 
-        if (!task_read(t, tid, image + (tid - 1) * SLOT_BYTES, k->used))
+        if (!task_read(t, tid, image + (tid - 1) * SLOT_BYTES, k->used,
+                       k->edition))
             return false;
-        if (t->state == STATE_ACTIVE)
-            sole = &k->active;
-        else if (t->state == STATE_EVENT_BLOCKED)
-            sole = &k->waiter[t->waits_for];
-        if (sole != NULL) {
-            MARK_ASK(sole == &k->active ? RULE_ACTIVE_TWICE : RULE_EVENT_TWICE);
-            if (*sole != 0)
+        if (t->state == STATE_ACTIVE) {
+            MARK_ASK(RULE_ACTIVE_TWICE);
+            if (k->active != 0)
                 return false;
-            *sole = tid;
+            k->active = tid;
         }
     }
     return true;
 }
 
+/* The one queue in which a task of such a state stands. */
+static struct queue *queue_of(struct table *k, const struct task *t)
+{
+    switch (t->state) {
+    case STATE_READY:
+        return &k->ready[t->priority];
+    case STATE_RECEIVE_BLOCKED:
+        return &k->task[t->waits_for].senders;
+    default:
+        return &k->waiters[t->waits_for];
+    }
+}
+
 /* Builds the queues. The tasks are first sorted by their places, so that each
    finds its queue just as long as its place says; a longer queue means the
-   place is taken twice, a shorter one that there is a gap. */
+   place is taken twice, a shorter one that there is a gap. Where only one may
+   wait for an event all places there are 0, so that a second one is refused as
+   the place is taken. */
 static bool queues_read(struct table *k, const uint8_t *image)
 {
     uint32_t first[TASKS] = { 0 }, other[TASKS + 1];
@@ -152,7 +162,7 @@ static bool queues_read(struct table *k, const uint8_t *image)
     for (uint32_t tid = 1; tid <= k->used; tid++) {
         uint32_t place = image[(tid - 1) * SLOT_BYTES + AT_PLACE];
 
-        if (!uses_place(k->task[tid].state))
+        if (!is_queued(k->task[tid].state))
             continue;
         MARK_RECORD(k->task[tid].state);
         MARK_ASK(RULE_PLACE_RANGE);
@@ -164,12 +174,11 @@ static bool queues_read(struct table *k, const uint8_t *image)
     for (uint32_t place = 0; place < TASKS; place++) {
         for (uint32_t tid = first[place]; tid != 0; tid = other[tid]) {
             struct task *t = &k->task[tid];
-            struct queue *q = t->state == STATE_READY
-                            ? &k->ready[t->priority]
-                            : &k->task[t->waits_for].senders;
+            struct queue *q = queue_of(k, t);
 
             MARK_RECORD(t->state);
             MARK_ASK(q->length > place ? RULE_PLACE_TWICE : RULE_PLACE_GAP);
+            MARK_ASK_IF(!uses_place(t->state, k->edition), RULE_EVENT_TWICE);
             if (q->length != place)
                 return false;
             table_append(k, q, tid);
@@ -213,10 +222,11 @@ static bool targets_exist(const struct table *k)
     return true;
 }
 
-bool table_read(struct table *k, const uint8_t *image)
+bool table_read(struct table *k, uint32_t edition, const uint8_t *image)
 {
     MARK_FORGET();
     *k = (struct table){ 0 };
+    k->edition = edition;
     k->used = used_read(image);
     if (k->used > 0 && tasks_read(k, image) && queues_read(k, image)
         && queues_fit(k) && targets_exist(k))
@@ -271,6 +281,8 @@ void table_write(struct table *k, uint8_t *image)
         places_write(k, &k->ready[p], image);
     for (uint32_t tid = 1; tid <= k->used; tid++)
         places_write(k, &k->task[tid].senders, image);
+    for (uint32_t event = 0; event < EVENTS; event++)
+        places_write(k, &k->waiters[event], image);
 }
 
 struct request request_read(const uint8_t *record)
@@ -300,7 +312,7 @@ static void answer_write(const struct answer *a, uint8_t *bytes)
     put32(bytes + 20, a->result.cut);
 }
 
-uint32_t peer_step(uint8_t *image, uint64_t image_len,
+uint32_t peer_step(uint32_t edition, uint8_t *image, uint64_t image_len,
                    uint8_t *areas, uint64_t areas_len,
                    const uint8_t *record, uint64_t record_len,
                    uint8_t *answer, uint64_t answer_len)
@@ -308,12 +320,16 @@ uint32_t peer_step(uint8_t *image, uint64_t image_len,
     struct answer a = { 0, 0, { RESULT_NOTHING, 0, 0, false } };
     struct table k;
 
+    MARK_GIVEN(edition, answer_len, record_len, image, image_len, areas_len);
     MARK_IF(answer_len != ANSWER_BYTES, REFUSAL_10);
     MARK_IF(answer_len != ANSWER_BYTES && record_len != RECORD_BYTES, ORDER_10_5);
     MARK_ANSWER(answer_len, record_len, image, image_len, areas_len);
     if (answer_len != ANSWER_BYTES)
         return REFUSED_ANSWER;
-    if (record_len != RECORD_BYTES) {
+    if (!edition_is_good(edition)) {
+        MARK_NO_EDITION(edition, record, record_len, image, image_len, areas_len);
+        a.verdict = REFUSED_EDITION;
+    } else if (record_len != RECORD_BYTES) {
         MARK(REFUSAL_5);
         MARK_IF(image_len == OLD_IMAGE_BYTES, IMAGE_OLD_5);
         MARK_IF(image_len != IMAGE_BYTES, ORDER_5_7);
@@ -325,14 +341,16 @@ uint32_t peer_step(uint8_t *image, uint64_t image_len,
         a.verdict = REFUSED_IMAGE;
     } else if (areas_len != AREAS_BYTES) {
         MARK(REFUSAL_1);
-        MARK_IF(!table_read(&k, image), ORDER_1_2);
-        MARK_IF(!table_read(&k, image) && COVER_CLOSED, CLOSED_1);
-        MARK_IF(!table_read(&k, image) && COVER_CUT, CUT_BAD_1);
+        MARK_IF(!table_read(&k, edition, image), ORDER_1_2);
+        MARK_IF(!table_read(&k, edition, image) && COVER_CLOSED, CLOSED_1);
+        MARK_IF(!table_read(&k, edition, image) && COVER_CUT, CUT_BAD_1);
+        MARK_IF(!table_read(&k, edition, image) && COVER_PLACE, PLACE_BAD_1_1 + edition - EDITION_SOLE);
         MARK_IF(cover_entry_only(image), UNUSED_1);
         a.verdict = REFUSED_AREAS;
-    } else if (!table_read(&k, image)) {
+    } else if (!table_read(&k, edition, image)) {
         MARK(REFUSAL_2);
         MARK_RULE();
+        MARK_EVENT_BAD(image, request_read(record));
         MARK_CLOSED(request_read(record));
         MARK_CUT_BAD(image, request_read(record));
         MARK_IF(get32(record) - 1 >= KIND_OWN_WRITE, ORDER_2_3);
@@ -345,27 +363,26 @@ uint32_t peer_step(uint8_t *image, uint64_t image_len,
         a = table_step(&k, areas, &q);
         MARK_CUT_LEFT(&k, a.verdict);
         MARK_ENTRY_LEFT(&k, q, a.verdict);
+        MARK_EVENT_LEFT(&k, q, a.verdict);
         if (a.verdict == 0)
             table_write(&k, image);
     }
+    MARK_STEPPED(edition, a.verdict);
     answer_write(&a, answer);
     return a.verdict;
 }
 
-uint32_t peer_start(uint32_t priority, uint32_t entry,
+uint32_t peer_start(uint32_t edition, uint32_t priority, uint32_t entry,
                     uint8_t *image, uint64_t image_len)
 {
     struct table k;
-    uint32_t refusal = table_start(&k, priority, entry);
+    uint32_t refusal = table_start(&k, edition, priority, entry);
 
-    MARK_STARTED(refusal, entry, image_len);
-    MARK_IF(refusal != 0 && image_len != IMAGE_BYTES, START_6_7);
+    MARK_STARTED(edition, priority, entry, image_len);
     if (refusal != 0)
         return refusal;
-    MARK_IF(image_len != IMAGE_BYTES, START_7);
     if (image_len != IMAGE_BYTES)
         return REFUSED_IMAGE;
-    MARK(START_OK);
     table_write(&k, image);
     return 0;
 }

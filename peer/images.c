@@ -2,6 +2,7 @@
 #include <string.h>
 
 #include "images.h"
+#include "pick.h"
 
 void image_tasks(uint8_t *image, uint32_t n)
 {
@@ -29,7 +30,7 @@ void image_mixed(uint8_t *image)
         b[AT_PRIORITY] = (uint8_t)(i % 10);
         if (b[AT_STATE] == STATE_ACTIVE && late)
             b[AT_STATE] = STATE_EXITED;
-        b[AT_PLACE] = uses_place(b[AT_STATE]) && late;
+        b[AT_PLACE] = uses_place(b[AT_STATE], EDITION_SOLE) && late;
         b[AT_WAITS_FOR] = b[AT_STATE] == STATE_EVENT_BLOCKED ? (uint8_t)i
                           : b[AT_STATE] == STATE_RECEIVE_BLOCKED
                           ? i % 10 == 3 ? 2 : 9 : 0;
@@ -71,9 +72,12 @@ static void put_result(uint64_t *s, uint8_t *b, uint32_t n)
         put4(b + 16, -1 - (int32_t)below(s, 3));
 }
 
-/* One slot may be a door, at which the given share of the tasks is queued. */
+/* One slot may be a door, at which the given share of the tasks is queued; or a
+ * share of them waits for events, from the first on so many, of which edition 1
+ * has all, and each with one task. */
 struct crowd {
-    uint32_t door, share;
+    uint32_t door, share, waiters, first, events;
+    bool sole, taken[EVENTS];
 };
 
 /* A target other than itself that exists and does not wait for a sender, else
@@ -94,8 +98,19 @@ static uint8_t free_target(uint64_t *s, uint8_t *image, uint32_t n, uint32_t i,
     return 0;
 }
 
+/* By edition 1 an event that nobody waits for. */
+static uint8_t some_event(uint64_t *s, struct crowd *c)
+{
+    uint32_t event;
+    do
+        event = (c->first + below(s, c->events)) % EVENTS;
+    while (c->taken[event] && c->events == EVENTS);
+    c->taken[event] = c->sole;
+    return (uint8_t)event;
+}
+
 static void put_fields(uint64_t *s, uint8_t *image, uint32_t n, uint32_t i,
-                       const struct crowd *c, uint8_t *events)
+                       struct crowd *c)
 {
     uint8_t *b = slot(image, i);
     if (b[0] == STATE_RECEIVE_BLOCKED &&
@@ -107,18 +122,15 @@ static void put_fields(uint64_t *s, uint8_t *image, uint32_t n, uint32_t i,
         put_room(s, b + 10);
     if (b[0] == STATE_READY)
         put_result(s, b, n);
-    if (b[0] == STATE_EVENT_BLOCKED) {
-        do
-            b[4] = (uint8_t)below(s, EVENTS);
-        while (events[b[4]]);
-        events[b[4]] = 1;
-    }
+    if (b[0] == STATE_EVENT_BLOCKED)
+        b[4] = some_event(s, c);
 }
 
 /* Places are dealt in any order of the slots. */
 static void put_places(uint64_t *s, uint8_t *image, uint32_t n)
 {
     uint8_t order[TASKS], ready[PRIORITIES] = {0}, sending[TASKS + 1] = {0};
+    uint8_t waiting[EVENTS] = {0};
     for (uint32_t i = 0; i < n; i++) {
         uint32_t j = below(s, i + 1);
         order[i] = order[j];
@@ -130,14 +142,26 @@ static void put_places(uint64_t *s, uint8_t *image, uint32_t n)
             b[3] = ready[b[1]]++;
         if (b[0] == STATE_RECEIVE_BLOCKED)
             b[3] = sending[b[4]]++;
+        if (b[0] == STATE_EVENT_BLOCKED)
+            b[3] = waiting[b[4]]++; /* by edition 1 always 0 */
     }
 }
 
 /* The door is mostly the task that could exit now. */
-static struct crowd some_crowd(uint64_t *s, uint32_t n, uint32_t active)
+static struct crowd some_crowd(uint64_t *s, uint32_t edition, uint32_t n,
+                               uint32_t active)
 {
-    struct crowd c = {TASKS, 0};
+    struct crowd c = {TASKS, 0, 0, below(s, EVENTS), EVENTS, true, {false}};
     uint32_t other = below(s, n), style = below(s, 3);
+    c.sole = edition == EDITION_SOLE;
+    if (!c.sole && chance(s, 70))
+        c.events = (uint32_t)PICK(s, 1, 2, 5);
+    if (chance(s, 25))
+        c.first = chance(s, 50) ? 0 : EVENTS - c.events;
+    if (chance(s, c.sole ? 5 : 20))
+        c.waiters = (uint32_t)PICK(s, 40, 80, 100, 100);
+    if (!c.sole && c.waiters == 100)
+        c.events = 1;
     if (!chance(s, 12))
         return c;
     c.door = active < n && chance(s, 70) ? active : other;
@@ -153,6 +177,8 @@ static uint8_t some_state(uint64_t *s, uint32_t i, const struct crowd *c,
         state = STATE_EXITED;
     if (i == c->door && (state == STATE_SEND_BLOCKED || state == STATE_EXITED))
         state = chance(s, 50) ? STATE_REPLY_BLOCKED : STATE_EVENT_BLOCKED;
+    if (chance(s, c->waiters))
+        state = STATE_EVENT_BLOCKED;
     if (i != c->door && chance(s, c->share))
         state = STATE_RECEIVE_BLOCKED;
     return state;
@@ -169,14 +195,13 @@ static void put_entries(uint64_t *s, uint8_t *image, uint32_t n)
     }
 }
 
-void image_invent(uint64_t *s, uint8_t *image)
+void image_invent(uint64_t *s, uint32_t edition, uint8_t *image)
 {
-    uint8_t events[EVENTS] = {0};
     uint32_t n = chance(s, 15) ? TASKS : 1 + below(s, TASKS);
     bool busy = chance(s, 80);
     uint32_t active = busy ? below(s, n) : TASKS;
     uint32_t spread = below(s, 3);
-    struct crowd crowd = some_crowd(s, n, active);
+    struct crowd crowd = some_crowd(s, edition, n, active);
     spread = spread == 0 ? 1 : spread == 1 ? 3 : PRIORITIES;
     memset(image, 0, IMAGE_BYTES);
     for (uint32_t i = 0; i < n; i++) {
@@ -189,7 +214,7 @@ void image_invent(uint64_t *s, uint8_t *image)
         b[2] = (uint8_t)(i == 0 ? 0 : 1 + below(s, i));
     }
     for (uint32_t i = 0; i < n; i++)
-        put_fields(s, image, n, i, &crowd, events);
+        put_fields(s, image, n, i, &crowd);
     put_places(s, image, n);
     put_entries(s, image, n);
 }

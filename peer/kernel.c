@@ -253,34 +253,29 @@ static void await_event(struct table *k, const struct request *q)
     struct task *caller = &k->task[k->active];
     int32_t event = q->arg[0];
 
+    MARK_AWAIT(k, event);
     if (!event_is_good(event)) {
-        MARK(AWAIT_RANGE);
         caller->result = fault(-1);
-    } else if (k->waiter[event] != 0) {
-        MARK(AWAIT_TAKEN);
+    } else if (k->edition == EDITION_SOLE && k->waiters[event].length != 0) {
         caller->result = fault(-3);
     } else {
-        MARK(AWAIT_OK);
-        k->waiter[event] = k->active;
         caller->state = STATE_EVENT_BLOCKED;
         caller->waits_for = (uint32_t)event;
+        table_append(k, &k->waiters[event], k->active);
     }
 }
 
-/* The interrupted task asked for nothing and so gets no result. */
+/* Which edition holds does not matter any more: it said how many may wait. The
+   interrupted task asked for nothing and so gets no result. */
 static void event_happens(struct table *k, const struct request *q)
 {
-    uint32_t *waiter = &k->waiter[q->arg[0]];
+    struct queue *waiters = &k->waiters[q->arg[0]];
     int32_t data = q->arg[1];
+    struct result result = data >= 0 ? value((uint32_t)data) : fault(-2);
 
-    MARK_IF(*waiter != 0, k->active ? EVENT_WAKES_ACTIVE : EVENT_WAKES_IDLE);
-    MARK_IF(*waiter == 0, k->active ? EVENT_NONE_ACTIVE : EVENT_NONE_IDLE);
-    MARK_IF(*waiter == 0 && COVER_COMPANY(k), EVENT_TURNS);
-    if (*waiter != 0) {
-        MARK(data >= 0 ? EVENT_DATA : EVENT_CORRUPT);
-        make_ready(k, *waiter, data >= 0 ? value((uint32_t)data) : fault(-2));
-        *waiter = 0;
-    }
+    MARK_HAPPENS(k, q);
+    while (waiters->length != 0)
+        make_ready(k, take_head(k, waiters), result);
 }
 
 static void serve(struct table *k, uint8_t *areas, const struct request *q)
@@ -326,12 +321,14 @@ static struct answer schedule(struct table *k)
             MARK_IF(a.result.kind == RESULT_VALUE, SHOW_VALUE + !!a.result.from);
             MARK_IF(a.result.kind == RESULT_FAULT, SHOW_FAULT);
             MARK_SHOWN(a.next);
+            MARK_EVENT_SHOWN(a.next, a.result);
             MARK_CUT_SHOWN(a.next, a.result);
             t->result = nothing; /* shown once only */
             break;
         }
     }
     MARK_IF(a.next == 0, SHOW_IDLE);
+    MARK_HAPPENED(a.next);
     MARK_EXITED(caller->state == STATE_EXITED, a.next);
     return a;
 }
@@ -353,13 +350,16 @@ static uint32_t refusal_of(const struct table *k, const struct request *q)
     return 0;
 }
 
-uint32_t table_start(struct table *k, uint32_t priority, uint32_t entry)
+uint32_t table_start(struct table *k, uint32_t edition, uint32_t priority,
+                     uint32_t entry)
 {
     *k = (struct table){ 0 };
     MARK_FORGET();
-    MARK_IF(priority >= PRIORITIES, START_6);
+    if (!edition_is_good(edition))
+        return REFUSED_EDITION;
     if (priority >= PRIORITIES)
         return REFUSED_PRIORITY;
+    k->edition = edition;
     k->used = 1;
     k->active = 1;
     k->task[1].state = STATE_ACTIVE;

@@ -63,8 +63,21 @@ enum refusal {
     REFUSED_EVENT = 8,
     REFUSED_WRITE = 9,
     REFUSED_ANSWER = 10,
-    REFUSED_ENTRY = 11
+    REFUSED_ENTRY = 11,
+    REFUSED_EDITION = 12
 };
+
+/* Two rules for events. The host says which one holds, at the start and with
+   every image, since no image tells. */
+enum edition {
+    EDITION_SOLE = 1, /* one task may wait for an event */
+    EDITION_CROWD = 2 /* any number, and all are woken */
+};
+
+static inline bool edition_is_good(uint32_t edition)
+{
+    return edition == EDITION_SOLE || edition == EDITION_CROWD;
+}
 
 struct request {
     int32_t kind, arg[5];
@@ -107,17 +120,19 @@ struct task {
 
 /* Either a good table or, with used 0, the all-unused one. */
 struct table {
+    uint32_t edition; /* the rule that holds; in no image */
     uint32_t used;   /* slots given out: tids 1 to used */
     uint32_t active; /* a tid, 0 for none */
     struct task task[TASKS + 1]; /* by tid; number 0 is not a task */
     struct queue ready[PRIORITIES];
-    uint32_t waiter[EVENTS];
+    struct queue waiters[EVENTS]; /* by the first edition, one at most */
 };
 
 /* kernel.c */
 
-/* A fresh kernel. Returns 0, or 6 with the all-unused table. */
-uint32_t table_start(struct table *k, uint32_t priority, uint32_t entry);
+/* A fresh kernel. Returns 0, or 12 or 6 with the all-unused table. */
+uint32_t table_start(struct table *k, uint32_t edition, uint32_t priority,
+                     uint32_t entry);
 
 /* One step of a good table over AREAS_BYTES of areas. */
 struct answer table_step(struct table *k, uint8_t *areas,
@@ -131,8 +146,8 @@ bool buffer_is_good(int32_t offset, int32_t length);
 /* image.c */
 
 /* False, with the all-unused table, where the IMAGE_BYTES at image are not
-   the image of a good table. */
-bool table_read(struct table *k, const uint8_t *image);
+   the image of a table that is good by this edition, which is 1 or 2. */
+bool table_read(struct table *k, uint32_t edition, const uint8_t *image);
 
 /* Writes the IMAGE_BYTES of a good table; of the all-unused one, nothing. */
 void table_write(struct table *k, uint8_t *image);
@@ -141,22 +156,22 @@ struct request request_read(const uint8_t *record);
 void request_write(const struct request *q, uint8_t *record);
 
 /* The byte entry. Returns the verdict, which is also in the answer. */
-uint32_t peer_step(uint8_t *image, uint64_t image_len,
+uint32_t peer_step(uint32_t edition, uint8_t *image, uint64_t image_len,
                    uint8_t *areas, uint64_t areas_len,
                    const uint8_t *record, uint64_t record_len,
                    uint8_t *answer, uint64_t answer_len);
 
-/* Writes the image of a fresh kernel; refused by 6, then by 7, without a byte
-   written. */
-uint32_t peer_start(uint32_t priority, uint32_t entry,
+/* Writes the image of a fresh kernel; refused by 12, then 6, then 7, without a
+   byte written. */
+uint32_t peer_start(uint32_t edition, uint32_t priority, uint32_t entry,
                     uint8_t *image, uint64_t image_len);
 
 /* convert.c */
 
 /* Writes the image into out; which form each of them has is told by its own
-   length, and both may have the same. Refused by 7, then 2, then 11, without a
-   byte written. */
-uint32_t peer_convert(const uint8_t *image, uint64_t image_len,
-                      uint8_t *out, uint64_t out_len);
+   length, and both may have the same. Refused by 12, then 7, then 2, then 11,
+   without a byte written. */
+uint32_t peer_convert(uint32_t edition, const uint8_t *image,
+                      uint64_t image_len, uint8_t *out, uint64_t out_len);
 
 #endif

@@ -15,8 +15,8 @@ enum {
     BLOCK_RECORDS = 2048,
     STREAM_BLOCK = 65536,
     CHUNK_MAX = 16384,
-    LENGTH_BYTES = 4,
-    START_BYTES = 12,
+    WORD_BYTES = 4,
+    START_BYTES = 16,
     IMAGE_FILL = 0xA5 /* no byte of a fresh image, so what is written shows */
 };
 
@@ -52,7 +52,7 @@ static void print_step(uint64_t step, const struct request *q,
         printf("-\n");
 }
 
-static int run(void)
+static int run(uint32_t edition)
 {
     uint8_t block[BLOCK_RECORDS * RECORD_BYTES];
     uint8_t areas[AREAS_BYTES] = { 0 };
@@ -60,7 +60,7 @@ static int run(void)
     uint64_t step = 0;
     size_t got;
 
-    table_start(&k, FIRST_PRIORITY, 0);
+    table_start(&k, edition, FIRST_PRIORITY, 0);
     do {
         got = fread(block, 1, sizeof block, stdin);
         for (size_t i = 0; i < got / RECORD_BYTES; i++) {
@@ -86,6 +86,7 @@ struct chunk {
 };
 
 struct test_case {
+    uint32_t edition;
     struct chunk image, areas, record, answer;
 };
 
@@ -97,7 +98,7 @@ static uint32_t number_read(const uint8_t *b)
 
 static void number_print(uint32_t u)
 {
-    uint8_t b[LENGTH_BYTES] = { (uint8_t)u, (uint8_t)(u >> 8),
+    uint8_t b[WORD_BYTES] = { (uint8_t)u, (uint8_t)(u >> 8),
                                 (uint8_t)(u >> 16), (uint8_t)(u >> 24) };
 
     fwrite(b, 1, sizeof b, stdout);
@@ -109,17 +110,28 @@ static void chunk_print(const struct chunk *c)
     fwrite(c->bytes, 1, c->length, stdout);
 }
 
-/* Returns NULL, or what is wrong with the chunk. *at_end says that the input
+/* Returns NULL, or what is wrong with the word. *at_end says that the input
    was over before its first byte. */
-static const char *chunk_read(struct chunk *c, bool *at_end)
+static const char *word_read(uint32_t *word, bool *at_end)
 {
-    uint8_t length[LENGTH_BYTES];
-    size_t got = fread(length, 1, sizeof length, stdin);
+    uint8_t bytes[WORD_BYTES];
+    size_t got = fread(bytes, 1, sizeof bytes, stdin);
 
     *at_end = got == 0 && !ferror(stdin);
-    if (got != sizeof length)
+    if (got != sizeof bytes)
         return "the last case is cut short";
-    c->length = number_read(length);
+    *word = number_read(bytes);
+    return NULL;
+}
+
+/* Never the first of a case, so that an end before it is no good end. */
+static const char *chunk_read(struct chunk *c)
+{
+    bool at_end;
+    const char *wrong = word_read(&c->length, &at_end);
+
+    if (wrong != NULL)
+        return wrong;
     if (c->length > CHUNK_MAX)
         return "a chunk is longer than 16384 bytes";
     if (fread(c->bytes, 1, c->length, stdin) != c->length)
@@ -129,15 +141,16 @@ static const char *chunk_read(struct chunk *c, bool *at_end)
 
 static const char *case_read(struct test_case *c, bool *over)
 {
-    bool at_end; /* inside a case the end of the input is no good end */
-    const char *wrong = chunk_read(&c->image, over);
+    const char *wrong = word_read(&c->edition, over);
 
     if (wrong == NULL)
-        wrong = chunk_read(&c->areas, &at_end);
+        wrong = chunk_read(&c->image);
     if (wrong == NULL)
-        wrong = chunk_read(&c->record, &at_end);
+        wrong = chunk_read(&c->areas);
     if (wrong == NULL)
-        wrong = chunk_read(&c->answer, &at_end);
+        wrong = chunk_read(&c->record);
+    if (wrong == NULL)
+        wrong = chunk_read(&c->answer);
     return wrong;
 }
 
@@ -156,7 +169,8 @@ static int cases(void)
 
     setvbuf(stdin, NULL, _IOFBF, STREAM_BLOCK);
     while ((wrong = case_read(&c, &over)) == NULL) {
-        uint32_t verdict = peer_step(c.image.bytes, c.image.length,
+        uint32_t verdict = peer_step(c.edition,
+                                     c.image.bytes, c.image.length,
                                      c.areas.bytes, c.areas.length,
                                      c.record.bytes, c.record.length,
                                      c.answer.bytes, c.answer.length);
@@ -173,9 +187,12 @@ static int cases(void)
     return stop(wrong);
 }
 
-/* As chunk_read, for the record of a start. */
-static const char *start_read(uint32_t *priority, uint32_t *entry,
-                              uint32_t *length, bool *at_end)
+struct start {
+    uint32_t edition, priority, entry, length;
+};
+
+/* As word_read, for the record of a start. */
+static const char *start_read(struct start *s, bool *at_end)
 {
     uint8_t record[START_BYTES];
     size_t got = fread(record, 1, sizeof record, stdin);
@@ -183,10 +200,11 @@ static const char *start_read(uint32_t *priority, uint32_t *entry,
     *at_end = got == 0 && !ferror(stdin);
     if (got != sizeof record)
         return "the last start is cut short";
-    *priority = number_read(record);
-    *entry = number_read(record + 4);
-    *length = number_read(record + 8);
-    if (*length > CHUNK_MAX)
+    s->edition = number_read(record);
+    s->priority = number_read(record + 4);
+    s->entry = number_read(record + 8);
+    s->length = number_read(record + 12);
+    if (s->length > CHUNK_MAX)
         return "an image is longer than 16384 bytes";
     return NULL;
 }
@@ -194,15 +212,16 @@ static const char *start_read(uint32_t *priority, uint32_t *entry,
 static int start(void)
 {
     uint8_t image[CHUNK_MAX];
-    uint32_t priority, entry, length;
+    struct start s;
     const char *wrong;
     bool over;
 
     setvbuf(stdin, NULL, _IOFBF, STREAM_BLOCK);
-    while ((wrong = start_read(&priority, &entry, &length, &over)) == NULL) {
-        memset(image, IMAGE_FILL, length);
-        number_print(peer_start(priority, entry, image, length));
-        fwrite(image, 1, length, stdout);
+    while ((wrong = start_read(&s, &over)) == NULL) {
+        memset(image, IMAGE_FILL, s.length);
+        number_print(peer_start(s.edition, s.priority, s.entry, image,
+                                s.length));
+        fwrite(image, 1, s.length, stdout);
     }
     if (over)
         return finish();
@@ -213,13 +232,15 @@ static int start(void)
 static int convert(void)
 {
     struct chunk image, out;
+    uint32_t edition;
     const char *wrong;
-    bool over, at_end;
+    bool over;
 
     setvbuf(stdin, NULL, _IOFBF, STREAM_BLOCK);
-    while ((wrong = chunk_read(&image, &over)) == NULL
-           && (wrong = chunk_read(&out, &at_end)) == NULL) {
-        number_print(peer_convert(image.bytes, image.length,
+    while ((wrong = word_read(&edition, &over)) == NULL
+           && (wrong = chunk_read(&image)) == NULL
+           && (wrong = chunk_read(&out)) == NULL) {
+        number_print(peer_convert(edition, image.bytes, image.length,
                                   out.bytes, out.length));
         chunk_print(&image);
         chunk_print(&out);
@@ -274,12 +295,22 @@ static int clock_messages(void)
     return stop("the last record is cut short");
 }
 
+/* Exactly the word for an edition, so not "01" and not "+1"; 0 for others. */
+static uint32_t edition_named(const char *word)
+{
+    return strcmp(word, "1") == 0 ? EDITION_SOLE
+           : strcmp(word, "2") == 0 ? EDITION_CROWD : 0;
+}
+
 int main(int argc, char **argv)
 {
     MARK_PROGRAM(argc, argv);
     setvbuf(stdout, NULL, _IOFBF, STREAM_BLOCK);
     if (argc == 2 && strcmp(argv[1], "run") == 0)
-        return run();
+        return run(EDITION_SOLE);
+    if (argc == 3 && strcmp(argv[1], "run") == 0
+        && edition_named(argv[2]) != 0)
+        return run(edition_named(argv[2]));
     if (argc == 2 && strcmp(argv[1], "cases") == 0)
         return cases();
     if (argc == 2 && strcmp(argv[1], "start") == 0)
@@ -288,6 +319,6 @@ int main(int argc, char **argv)
         return clock_messages();
     if (argc == 2 && strcmp(argv[1], "convert") == 0)
         return convert();
-    fprintf(stderr, "usage: peer run|cases|start|clock|convert\n");
+    fprintf(stderr, "usage: peer run [1|2] | peer cases|start|clock|convert\n");
     return 2;
 }

@@ -27,14 +27,16 @@ void world_habits(struct world *w)
     w->sends = (uint32_t)PICK(s, 5, 12, 25);
     w->hot = 1 + below(s, 4);
     w->mortal = chance(s, 10);
+    w->flock = (uint32_t)PICK(s, 15, 15, 60);
+    w->bells = (uint32_t)PICK(s, 0, 2, 10, 40);
 }
 
-void world_start(struct world *w, uint64_t seed, uint32_t priority,
-                 uint32_t entry)
+void world_start(struct world *w, uint64_t seed, uint32_t edition,
+                 uint32_t priority, uint32_t entry)
 {
     memset(w, 0, sizeof *w);
     w->seed = seed;
-    table_start(&w->table, priority, entry);
+    table_start(&w->table, edition, priority, entry);
     world_habits(w);
 }
 
@@ -50,33 +52,33 @@ static uint32_t some_task(struct world *w, enum state state)
     return 0;
 }
 
-static bool exists(const struct table *k, uint32_t tid)
+bool world_exists(const struct table *k, uint32_t tid)
 {
     return !is(k, tid, STATE_UNUSED) && !is(k, tid, STATE_EXITED);
 }
 
-static uint32_t living(const struct table *k)
+uint32_t world_living(const struct table *k)
 {
     uint32_t count = 0;
     for (uint32_t tid = 1; tid <= k->used; tid++)
-        count += exists(k, tid);
+        count += world_exists(k, tid);
     return count;
 }
 
 /* The tid of a task that exists, else 0. */
-static uint32_t some_living(struct world *w)
+uint32_t world_some_living(struct world *w)
 {
     uint32_t start = below(&w->seed, w->table.used);
     for (uint32_t i = 0; i < w->table.used; i++) {
         uint32_t tid = 1 + (start + i) % w->table.used;
-        if (exists(&w->table, tid))
+        if (world_exists(&w->table, tid))
             return tid;
     }
     return 0;
 }
 
 /* Tasks that can never go on: queued in a ring, or behind one. */
-static uint32_t stuck(const struct table *k)
+uint32_t world_stuck(const struct table *k)
 {
     uint32_t count = 0;
     for (uint32_t tid = 1; tid <= k->used; tid++) {
@@ -111,7 +113,7 @@ static bool in_vain(const struct table *k, uint32_t t)
         if (t == k->active)
             return true;
     }
-    return is(k, t, STATE_RECEIVE_BLOCKED) || !exists(k, t);
+    return is(k, t, STATE_RECEIVE_BLOCKED) || !world_exists(k, t);
 }
 
 static int32_t send_target(struct world *w)
@@ -126,13 +128,13 @@ static int32_t send_target(struct world *w)
         return (int32_t)t;
     if (style < 40 && (t = some_task(w, STATE_SEND_BLOCKED)))
         return (int32_t)t;
-    if (w->hot <= k->used && !exists(k, w->hot))
-        w->hot = some_living(w);
+    if (w->hot <= k->used && !world_exists(k, w->hot))
+        w->hot = world_some_living(w);
     if (style < 70 && w->hot <= k->used && w->hot != k->active &&
         !in_vain(k, w->hot))
         return (int32_t)w->hot;
     for (int tries = 0; tries < 8; tries++) {
-        t = some_living(w);
+        t = world_some_living(w);
         if (t != k->active && !in_vain(k, t))
             return (int32_t)t;
     }
@@ -192,7 +194,7 @@ static const struct buffer *other_end(const struct table *k,
     return NULL;
 }
 
-static void fill(struct world *w, struct request *q)
+void world_fill(struct world *w, struct request *q)
 {
     uint64_t *s = &w->seed;
     const struct table *k = &w->table;
@@ -215,7 +217,7 @@ static void fill(struct world *w, struct request *q)
         room_facing(w, q->arg + 1, other_end(k, q));
         break;
     case KIND_AWAIT_EVENT:
-        q->arg[0] = some_event(w, 15);
+        q->arg[0] = some_event(w, w->flock);
         break;
     case KIND_EVENT:
         q->arg[0] = some_event(w, 75);
@@ -242,7 +244,7 @@ static int32_t busy_kind(struct world *w)
     if (w->table.used < TASKS)
         weight[KIND_CREATE] = w->creates;
     weight[KIND_EXIT] = w->exits;
-    if (senders > 0 && living(&w->table) > w->least)
+    if (senders > 0 && world_living(&w->table) > w->least)
         weight[KIND_EXIT] += w->leaves;
     if (some_task(w, STATE_REPLY_BLOCKED))
         weight[KIND_REPLY] = 24;
@@ -298,79 +300,8 @@ struct request world_choose(struct world *w)
             q.arg[i] = odd_number(&w->seed);
     q.kind = w->table.active ? busy_kind(w) : idle_kind(w);
     if (w->table.active || q.kind >= KIND_EVENT)
-        fill(w, &q);
+        world_fill(w, &q);
     if (chance(&w->seed, 10))
         spoil(w, &q);
-    return q;
-}
-
-/* ---- doors ---- */
-
-/* A task exits once, and left to chance mostly while nobody is queued at it. So
- * now and then one is chosen to be a door: the others are made to queue there,
- * and when enough of them do it exits. */
-static void mind_door(struct world *w)
-{
-    uint64_t *s = &w->seed;
-    if (w->door && (w->patience-- == 0 || !exists(&w->table, w->door)))
-        w->door = 0;
-    if (w->door || !chance(s, w->doors) || living(&w->table) <= w->least)
-        return;
-    w->door = some_living(w);
-    w->crowd = 1 + below(s, (uint32_t)PICK(s, 1, 3, 8, TASKS - 1));
-    w->patience = 20 + below(s, 150);
-}
-
-static bool has_ready(const struct table *k)
-{
-    for (int p = 0; p < PRIORITIES; p++)
-        if (k->ready[p].length > 0)
-            return true;
-    return false;
-}
-
-/* The door lets the others run until enough of them are queued. It waits in
- * several states meanwhile, and may receive some of them, who then stay. */
-static int32_t door_kind(struct world *w)
-{
-    uint32_t senders = w->table.task[w->door].senders.length;
-    if (senders >= w->crowd || (senders > 0 && !has_ready(&w->table)))
-        return KIND_EXIT;
-    if (senders > 0 && chance(&w->seed, 20))
-        return KIND_RECEIVE;
-    return PICK(&w->seed, KIND_YIELD, KIND_YIELD, KIND_AWAIT_EVENT,
-                KIND_AWAIT_EVENT, KIND_SEND, KIND_CREATE);
-}
-
-static struct request planned(struct world *w)
-{
-    struct request q = world_choose(w);
-    mind_door(w);
-    if (!w->door || !w->table.active || chance(&w->seed, 15))
-        return q;
-    q.kind = w->door == w->table.active ? door_kind(w) : KIND_SEND;
-    fill(w, &q);
-    if (w->door != w->table.active)
-        q.arg[0] = (int32_t)w->door;
-    return q;
-}
-
-/* Tries a request on a copy, and looks for another if all would stand still,
- * or, mostly, if it would leave one more task stuck. */
-struct request world_live(struct world *w)
-{
-    static struct table copy;
-    static uint8_t areas[AREAS_BYTES];
-    struct request q = planned(w);
-    if (w->mortal || world_dead(&w->table))
-        return q;
-    for (int tries = 0; tries < 50; tries++) {
-        copy = w->table;
-        table_step(&copy, areas, &q);
-        if (!world_dead(&copy) &&
-            (stuck(&copy) <= stuck(&w->table) || chance(&w->seed, 3)))
-            break;
-        q = world_choose(w);
-    }
     return q;
 }

@@ -44,7 +44,7 @@ static void expect_step(int32_t kind, int32_t a, int32_t b,
 static void fresh(void)
 {
     memset(areas, 0, sizeof areas);
-    expect(table_start(&k, FIRST_PRIORITY, 0) == 0, "start");
+    expect(table_start(&k, 1, FIRST_PRIORITY, 0) == 0, "start");
 }
 
 static const struct answer idle = {0, 0, {RESULT_NOTHING, 0, 0, false}};
@@ -79,11 +79,12 @@ static void first_run(void)
 {
     uint8_t image[IMAGE_BYTES], record[RECORD_BYTES], answer[ANSWER_BYTES];
     memset(areas, 0, sizeof areas);
-    expect(peer_start(FIRST_PRIORITY, 0, image, sizeof image) == 0, "start");
+    expect(peer_start(1, FIRST_PRIORITY, 0, image, sizeof image) == 0, "start");
     for (int i = 0; i < 11; i++) {
         request_write(&first_steps[i], record);
         memset(answer, 0xAA, sizeof answer);
-        uint32_t verdict = peer_step(image, sizeof image, areas, sizeof areas,
+        uint32_t verdict = peer_step(1, image, sizeof image,
+                                     areas, sizeof areas,
                                      record, sizeof record, answer,
                                      sizeof answer);
         expect(verdict == first_answers[i][0], "first run, verdict");
@@ -266,7 +267,7 @@ static struct answer through_image(uint8_t *image, int32_t kind)
     uint8_t record[RECORD_BYTES], answer[ANSWER_BYTES];
     struct answer a;
     request_write(&q, record);
-    a.verdict = peer_step(image, IMAGE_BYTES, areas, AREAS_BYTES, record,
+    a.verdict = peer_step(1, image, IMAGE_BYTES, areas, AREAS_BYTES, record,
                           RECORD_BYTES, answer, ANSWER_BYTES);
     expect(answer[0] == a.verdict, "verdict in the answer");
     a.next = answer[4];
@@ -324,9 +325,9 @@ static void targets(void)
     uint8_t image[IMAGE_BYTES], before[IMAGE_BYTES];
     for (int state = STATE_ACTIVE; state <= STATE_EXITED; state++) {
         target_image(image, (enum state)state, true);
-        expect(table_read(&k, image) == good[state], "target of lower tid");
+        expect(table_read(&k, 1, image) == good[state], "target of lower tid");
         target_image(image, (enum state)state, false);
-        expect(table_read(&k, image) == good[state], "target of higher tid");
+        expect(table_read(&k, 1, image) == good[state], "target of higher tid");
     }
     target_image(image, STATE_EXITED, true);
     expect_answer(through_image(image, KIND_YIELD), refused(2, 0),
@@ -339,28 +340,6 @@ static void targets(void)
     expect_answer(through_image(image, KIND_MY_TID), refused(2, 0),
                   "target exited, 2 before 4");
     expect(memcmp(image, before, sizeof image) == 0, "refused, not repaired");
-}
-
-/* 6 before 7, and no byte where either refuses: readings 35 to 39. */
-static void starting(void)
-{
-    uint8_t image[IMAGE_BYTES + 1], fresh_image[IMAGE_BYTES] = {1, 31};
-    memset(image, 0xAA, sizeof image);
-    expect(peer_start(16, 0, image, IMAGE_BYTES + 1) == 7, "start, 769 bytes");
-    expect(peer_start(16, 0, image, IMAGE_BYTES - 1) == 7, "start, 767 bytes");
-    expect(peer_start(32, 0, image, IMAGE_BYTES - 1) == 6, "start, 6 before 7");
-    expect(peer_start(32, 0, image, IMAGE_BYTES) == 6, "start at 32");
-    expect(peer_start(UINT32_MAX, 0, image, IMAGE_BYTES) == 6, "start at -1");
-    expect(table_start(&k, 32, 0) == 6, "table at 32");
-    table_write(&k, image);
-    for (int i = 0; i <= IMAGE_BYTES; i++)
-        expect(image[i] == 0xAA, "start refused, nothing written");
-    expect_step(KIND_MY_TID, 0, 0, refused(2, 0), "step of no task");
-    expect(peer_start(31, 0, image, IMAGE_BYTES) == 0, "start at 31");
-    expect(memcmp(image, fresh_image, IMAGE_BYTES) == 0, "start at 31, image");
-    expect(image[IMAGE_BYTES] == 0xAA, "start, past the image");
-    memset(image, 0, IMAGE_BYTES);
-    expect(!table_read(&k, image), "all unused breaks the rules");
 }
 
 /* Paths that no job can reach; all others the comparison has to. */
@@ -393,6 +372,7 @@ int main(void)
     targets();
     cut_cases();
     entry_cases();
+    event_cases();
     clock_cases();
     count_starting();
     return 0;

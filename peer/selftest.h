@@ -9,6 +9,8 @@ void expect(bool holds, const char *what);
 
 void cut_cases(void);
 void entry_cases(void);
+void event_cases(void);
+void starting(void);
 void clock_cases(void);
 
 #endif

@@ -18,7 +18,7 @@ struct line {
 static void start(void)
 {
     memset(areas, 0, sizeof areas);
-    expect(peer_start(FIRST_PRIORITY, 0, image, sizeof image) == 0, "start");
+    expect(peer_start(1, FIRST_PRIORITY, 0, image, sizeof image) == 0, "start");
 }
 
 static void step(const struct line *l, const char *what)
@@ -27,7 +27,7 @@ static void step(const struct line *l, const char *what)
     uint32_t verdict;
     request_write(&l->q, record);
     memset(answer, 0xAA, sizeof answer);
-    verdict = peer_step(image, sizeof image, areas, sizeof areas, record,
+    verdict = peer_step(1, image, sizeof image, areas, sizeof areas, record,
                         sizeof record, answer, sizeof answer);
     expect(verdict == (uint32_t)l->answer[0], what);
     for (int i = 0; i < 6; i++)
@@ -119,7 +119,7 @@ static void byte_15(enum state state, uint8_t kind, int32_t number)
     put32(b + AT_NUMBER, (uint32_t)number);
     for (int cut = 0; cut < 256; cut++) {
         b[AT_CUT] = (uint8_t)cut;
-        expect(table_read(&k, image) ==
+        expect(table_read(&k, 1, image) ==
                    (cut == 0 || (cut == 1 && kind == RESULT_VALUE)),
                "byte 15");
     }
@@ -147,7 +147,7 @@ static void answers(void)
         uint32_t verdict;
         start();
         memcpy(answer, before, sizeof answer);
-        verdict = peer_step(image, sizeof image, areas, sizeof areas, record,
+        verdict = peer_step(1, image, sizeof image, areas, sizeof areas, record,
                             sizeof record, answer, length);
         expect(verdict == (length == 24 ? 0 : 10), "length of an answer");
         expect((image[SLOT_BYTES] != 0) == (length == 24), "no step");

@@ -16,7 +16,7 @@ static uint32_t step(uint64_t image_length, int32_t kind, int32_t a, int32_t b)
     uint8_t record[RECORD_BYTES], answer[ANSWER_BYTES];
     uint32_t verdict;
     request_write(&q, record);
-    verdict = peer_step(image, image_length, areas, sizeof areas, record,
+    verdict = peer_step(1, image, image_length, areas, sizeof areas, record,
                         sizeof record, answer, sizeof answer);
     expect(get32(answer) == verdict, "verdict in the answer");
     return verdict;
@@ -39,12 +39,12 @@ static void started(void)
     memset(image, 0xA5, sizeof image);
     memcpy(before, image, sizeof before);
     for (unsigned i = 0; i < COUNT(wrong); i++) {
-        expect(peer_start(31, 9, image, wrong[i]) == 7, "start, length");
-        expect(peer_start(32, 9, image, wrong[i]) == 6, "start, 6 before 7");
+        expect(peer_start(1, 31, 9, image, wrong[i]) == 7, "start, length");
+        expect(peer_start(1, 32, 9, image, wrong[i]) == 6, "start, 6 before 7");
     }
-    expect(peer_start(32, 5, image, sizeof image) == 6, "start, priority");
+    expect(peer_start(1, 32, 5, image, sizeof image) == 6, "start, priority");
     expect(memcmp(image, before, sizeof image) == 0, "start, no byte");
-    expect(peer_start(31, 0x8D0C0B0A, image, sizeof image) == 0, "start");
+    expect(peer_start(1, 31, 0x8D0C0B0A, image, sizeof image) == 0, "start");
     expect(memcmp(image, fresh, sizeof image) == 0, "start, image");
 }
 
@@ -65,7 +65,7 @@ static void created(void)
         2, 31, 2, 0, 0, 0, 0, 0, 0, 0, 0, 0, 0, 0, 0, 0, 0, 0, 0, 0, 254,
         255, 255, 255};
     static const uint8_t none[SLOT_BYTES] = {0};
-    expect(peer_start(16, 7, image, sizeof image) == 0, "start at 16");
+    expect(peer_start(1, 16, 7, image, sizeof image) == 0, "start at 16");
     expect(step(sizeof image, KIND_CREATE, 32, 9) == 0, "bad priority");
     expect_slot(1, first, "the caller's entry stays");
     expect_slot(2, none, "no task, no entry");
@@ -84,7 +84,7 @@ static void created(void)
 
 static void full(void)
 {
-    expect(peer_start(0, 0, image, sizeof image) == 0, "start at 0");
+    expect(peer_start(1, 0, 0, image, sizeof image) == 0, "start at 0");
     for (int32_t tid = 2; tid <= TASKS; tid++)
         expect(step(sizeof image, KIND_CREATE, 9, -tid) == 0, "32 tasks");
     expect(step(sizeof image, KIND_CREATE, 9, 1234) == 0, "a 33rd");
@@ -136,7 +136,7 @@ static void kept(void)
 static void refused(void)
 {
     uint8_t before[IMAGE_BYTES];
-    expect(peer_start(16, 7, image, sizeof image) == 0, "start at 16");
+    expect(peer_start(1, 16, 7, image, sizeof image) == 0, "start at 16");
     expect(step(640, KIND_YIELD, 0, 0) == 7, "image of 640 bytes");
     expect(step(767, KIND_YIELD, 0, 0) == 7, "image of 767 bytes");
     expect(step(0, 12, 0, 0) == 7, "image of 0 bytes");
@@ -178,7 +178,7 @@ static void expect_convert(const uint8_t *from, uint64_t from_length,
 {
     uint64_t written = want == 0 ? to_length : 0;
     memset(out, 0xA5, sizeof out);
-    expect(peer_convert(from, from_length, out, to_length) == want, what);
+    expect(peer_convert(1, from, from_length, out, to_length) == want, what);
     for (uint64_t i = written; i < sizeof out; i++)
         expect(out[i] == 0xA5, what);
 }

@@ -1,21 +1,19 @@
-/* Starts: each a priority, the first task's entry number and the length of the
- * image to start into. */
-#include <stdio.h>
-
+/* Starts: each an edition, a priority, the first task's entry number and the
+ * length of the image to start into. */
 #include "generate.h"
-#include "stored.h"
 
 static void put_start(uint32_t priority, uint32_t entry, uint32_t length)
 {
-    uint8_t b[12];
-    put32(b, priority);
-    put32(b + 4, entry);
-    put32(b + 8, length);
-    fwrite(b, 1, sizeof b, stdout);
+    put_word(given_edition);
+    put_word(priority);
+    put_word(entry);
+    put_word(length);
 }
 
-int starts_one(uint32_t priority, uint32_t entry, uint32_t length)
+int starts_one(uint32_t edition, uint32_t priority, uint32_t entry,
+               uint32_t length)
 {
+    given_edition = edition;
     put_start(priority, entry, length);
     return 0;
 }
@@ -31,13 +29,14 @@ static const uint32_t far_priority[] = {
  * shows. Of the lengths 256, 1024 and 8960 share low bits with 768, and 128,
  * 896 and 8832 with 640, which was right before there were entries. An entry
  * may be what would be a bad priority, or a length. */
-int starts_fixed(void)
+static void by_edition(uint32_t edition)
 {
     static const uint32_t priority[] = {0, 32, 16, 256 + 16, 31, UINT32_MAX,
                                         7, 1u << 31};
     static const uint32_t length[] = {
         0, 1, 20, 24, 128, 256, 639, 640, 641, 644, 764, 767, 768, 769, 772,
         896, 1024, 1280, 1536, 8192, 8832, 8960, LONGEST - 1, LONGEST};
+    given_edition = edition;
     for (uint32_t p = 0; p <= 40; p++)
         put_start(p, listed_entry(p), IMAGE_BYTES);
     for (unsigned i = 0; i < COUNT(far_priority); i++)
@@ -54,6 +53,34 @@ int starts_fixed(void)
         put_start(16, 0, length[i]);
     put_start(16, IMAGE_BYTES, IMAGE_BYTES);
     put_start(16, IMAGE_BYTES, OLD_IMAGE_BYTES);
+}
+
+/* Words that are no edition, alone and with what else may be wrong; between
+ * them a start that is made. An entry or a priority may be an edition. */
+static void no_editions(void)
+{
+    static const uint32_t priority[] = {1, 32, 2, 31, UINT32_MAX, 256 + 1};
+    static const uint32_t length[] = {IMAGE_BYTES, OLD_IMAGE_BYTES, 0,
+                                      IMAGE_BYTES + 1, IMAGE_BYTES};
+    for (uint32_t n = 0; n < NO_EDITIONS; n++)
+        for (unsigned i = 0; i < COUNT(priority); i++)
+            for (unsigned j = 0; j < COUNT(length); j++) {
+                given_edition = listed_no_edition(n);
+                if (j + 1 == COUNT(length))
+                    given_edition = EDITION_SOLE + (n + i) % 2;
+                put_start(priority[i], n % 3, length[j]);
+            }
+    for (uint32_t bit = 0; bit < 32; bit++) {
+        given_edition = 1u << bit;
+        put_start(EDITION_SOLE, EDITION_CROWD, IMAGE_BYTES);
+    }
+}
+
+int starts_fixed(void)
+{
+    by_edition(EDITION_SOLE);
+    by_edition(EDITION_CROWD);
+    no_editions();
     return 0;
 }
 
@@ -97,6 +124,7 @@ int starts_drawn(uint64_t seed, unsigned long count)
     uint64_t s = seed;
     for (unsigned long i = 0; i < count; i++) {
         uint32_t priority = some_priority(&s), entry = some_entry(&s);
+        given_edition = some_edition(&s);
         put_start(priority, entry, some_length(&s));
     }
     return 0;

@@ -57,9 +57,17 @@ static inline void put32(uint8_t *b, uint32_t u)
 
 /* Which states use which fields: read and written by the same rule. */
 
-static inline bool uses_place(enum state s)
+static inline bool is_queued(enum state s)
 {
-    return s == STATE_READY || s == STATE_RECEIVE_BLOCKED;
+    return s == STATE_READY || s == STATE_RECEIVE_BLOCKED
+        || s == STATE_EVENT_BLOCKED;
+}
+
+/* Who waits for an event alone needs no place. */
+static inline bool uses_place(enum state s, uint32_t edition)
+{
+    return is_queued(s)
+        && (s != STATE_EVENT_BLOCKED || edition == EDITION_CROWD);
 }
 
 static inline bool uses_waits_for(enum state s)

@@ -121,7 +121,7 @@ static void heads(const struct run *r, int last)
     put("\"/>\n");
 }
 
-/* The states of one task, each run of a state as one bar. */
+/* The states of one task, each run of a state as one bar; one that waits for an event has the event's number at its top. */
 static void states(const struct run *r, int last, int tid)
 {
     for (int i = base + 1, from = i; i <= last; i++) {
@@ -130,35 +130,48 @@ static void states(const struct run *r, int last, int tid)
             continue;
         if (state != UNUSED)
             bar(x_of(tid) - wide / 2, y_of(from) + 1, wide, (i + 1 - from) * ROW - 1, (enum state)state);
+        if (state == EVENT_BLOCKED)
+            of_event(x_of(tid), y_of(from) + ROW / 2, r->steps[from].event[tid]);
         from = i + 1;
     }
 }
 
 static int woken(const struct step *s, int tid)
 {
-    const struct step *before = s - 1;
-    return before->state[tid] >= SEND_BLOCKED && before->state[tid] <= EVENT_BLOCKED && (s->state[tid] == ACTIVE || s->state[tid] == READY);
+    return s[-1].state[tid] == EVENT_BLOCKED && s->state[tid] != EVENT_BLOCKED;
+}
+
+/* An event: one line, with a head at each task that it wakes, the farthest drawn first. Where it wakes more than one, each head has
+ * its place among them: they waited in the order in which they came, and so they join the ready queues. */
+static void wakes(const struct step *s, int y)
+{
+    int left = at.lanes - GUTTER + 10, count = 0;
+    for (int t = 1; t <= s->used; t++)
+        count += woken(s, t);
+    for (int t = s->used; t >= 1; t--) {
+        int place = 1;
+        if (!woken(s, t))
+            continue;
+        for (int u = 1; u <= s->used; u++)
+            place += woken(s, u) && s[-1].since[u] < s[-1].since[t];
+        event(left, x_of(t) - BAR / 2, y, count > 1 ? place : 0);
+    }
+    if (!count)
+        lost(left, y);
 }
 
 /* What a step did, over the bars. */
 static void deed(int number, const struct step *s)
 {
-    int y = y_of(number) + ROW / 2, left = at.lanes - GUTTER + 10, found = 0;
+    int y = y_of(number) + ROW / 2;
     if (s->effect == 'c') {
         int way = s->taker > s->giver ? 1 : -1;
         delivery(x_of(s->giver) + way * BAR / 2, x_of(s->taker) - way * BAR / 2, y, s->count, s->delivery_cut);
     }
     if (s->effect == 'w')
         dot(x_of(s->caller), y);
-    if (s->words[0] == EVENT && !s->verdict) {
-        for (int t = s->used; t >= 1; t--)
-            if (woken(s, t)) {
-                event(left, x_of(t) - BAR / 2, y);
-                found = 1;
-            }
-        if (!found)
-            lost(left, y);
-    }
+    if (s->words[0] == EVENT && !s->verdict)
+        wakes(s, y);
     if (s->told == 'e')
         mark(x_of(s->next), y, s->value);
 }
@@ -198,7 +211,7 @@ static void measure(const struct run *r)
         say_told(text, sizeof text, &r->steps[i]);
         told = wider(told, text);
     }
-    lane = lanes <= 6 ? 64 : 44; /* between two bars a count of three digits fits beside the head of an arrow */
+    lane = lanes <= 6 ? 64 : 48; /* between two bars four characters fit beside the head of an arrow */
     for (int t = 1; t <= lanes; t++) {
         snprintf(text, sizeof text, " %" PRIu32, r->steps[r->count].entry[t]);
         lane = wider(lane, text);

@@ -113,8 +113,23 @@ static int parties(struct step *s, const struct step *before)
     return s->giver != s->taker && within(s, s->giver, s->source, s->count) && within(s, s->taker, s->dest, s->count);
 }
 
+/* Who waits for an event. A task begins to by its own AwaitEvent, and an Event wakes all who wait for it, in either edition. */
+static int waits(struct step *s, const struct step *before, int number)
+{
+    for (int t = 1; t <= s->used; t++) {
+        int was = before->state[t] == EVENT_BLOCKED, is = s->state[t] == EVENT_BLOCKED;
+        int asks = s->words[0] == AWAIT_EVENT && s->caller == t;
+        int wakes = s->words[0] == EVENT && !s->verdict && s->words[1] == before->event[t];
+        if (was ? is == wakes : is && !asks)
+            return 0;
+        s->event[t] = was ? before->event[t] : s->words[1];
+        s->since[t] = was ? before->since[t] : number;
+    }
+    return 1;
+}
+
 /* What is wrong with a line that has the right form, or NULL. */
-static const char *odd(struct step *s, const struct step *before)
+static const char *odd(struct step *s, const struct step *before, int number)
 {
     for (int t = 1; t <= before->used; t++)
         if (t > s->used || s->priority[t] != before->priority[t] || s->entry[t] != before->entry[t])
@@ -130,6 +145,8 @@ static const char *odd(struct step *s, const struct step *before)
         return "the delivery is not from one task's area to another's";
     if (s->effect == 'w' && !within(s, s->caller, s->dest, 1))
         return "the write is not in the area of the task that asks";
+    if (!waits(s, before, number))
+        return "a task waits for an event that it did not ask for, or was woken by another, or was not woken by it";
     return NULL;
 }
 
@@ -142,7 +159,7 @@ static const char *read_line(struct step *s, int due, const char *line)
     if (step != due || kind != s->words[0])
         return "not the step and the kind of its record";
     s->caller = kind == EVENT ? 0 : s[-1].next;
-    return odd(s, s - 1);
+    return odd(s, s - 1, step);
 }
 
 static size_t read_record(FILE *in, struct step *s)

@@ -91,9 +91,25 @@ void delivery(int from, int end, int y, int count, int cut)
         broken(end - 13 * way, y);
 }
 
-void event(int from, int end, int y)
+/* The number of the event that a task waits for, on its bar. */
+void of_event(int x, int y, int number)
+{
+    put("<text x=\"%d\" y=\"%d\" font-size=\"9\"" MONO BOLD HALO " text-anchor=\"middle\">%d</text>\n", x, y + 3, number);
+}
+
+static const char *ending(int place)
+{
+    static const char *const endings[] = {"th", "st", "nd", "rd"};
+    int last = place % 10, teens = place / 10 % 10 == 1;
+    return endings[last <= 3 && !teens ? last : 0];
+}
+
+/* Of the tasks that an event wakes, one has its place at the head of its arrow; 0 is none. */
+void event(int from, int end, int y, int place)
 {
     put("<path d=\"M%d %dH%d\" stroke=\"#fff\" stroke-width=\"5\"/>\n", from, y, end);
+    if (place)
+        put("<text x=\"%d\" y=\"%d\" font-size=\"9\"" MONO HALO " text-anchor=\"end\">%d%s</text>\n", end - 7, y - 3, place, ending(place));
     put("<path d=\"M%d %dH%d\" stroke=\"" INK "\" stroke-width=\"1.6\" stroke-dasharray=\"3 2\"/>\n", from, y, end - 5);
     head(end, y, 1);
 }

@@ -24,6 +24,7 @@ struct step {
     int giver, taker; /* of a delivery */
     int used;
     unsigned char state[TASKS + 1], priority[TASKS + 1];
+    int event[TASKS + 1], since[TASKS + 1]; /* of a task that waits for an event: which, and the step of its AwaitEvent */
     uint32_t entry[TASKS + 1]; /* a task's entry number: the host finds the task's code by it */
 };
 
@@ -40,7 +41,7 @@ int read_run(struct run *r, FILE *requests, FILE *lines);
 void draw(FILE *out, const struct run *r);
 
 /* key.c: what the marks mean, from the top of the picture to KEY_HIGH; it takes KEY_WIDE at least. */
-enum { KEY_WIDE = 716, KEY_HIGH = 208 };
+enum { KEY_WIDE = 716, KEY_HIGH = 224 };
 void key(void);
 
 /* svg.c: the marks. */
@@ -58,7 +59,8 @@ void label(int x, int y, int size, const char *more, const char *text);
 void box(int x, int y, int w, int h, const char *colour);
 void bar(int x, int y, int w, int h, enum state state);
 void delivery(int from, int end, int y, int count, int cut);
-void event(int from, int end, int y);
+void of_event(int x, int y, int number);
+void event(int from, int end, int y, int place);
 void lost(int from, int y);
 void mark(int x, int y, int fault);
 void dot(int x, int y);

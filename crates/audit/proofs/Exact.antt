@@ -30,7 +30,7 @@ use Rattle.audit.proofs.Below.{below-rest}
 use Rattle.audit.proofs.Counts.{count-is}
 use Rattle.audit.proofs.Ranks.{Filled}
 
--- an exact record is what its task is written as, so that it has the code of that, and the place 0 where it waits for an event
+-- an exact record is what its task is written as, so that it has the code of that
 module _ (r : List ℕ) (size : length r ≡ recordLength) (small : Bytes r) (e : exactRecord r ≡ true) where
   again : taskRecord (taskFrom r) (keptPlace r) ≡ r
   again = same-true _ r (sym (exact-record r size small) ∙ e)
@@ -44,10 +44,6 @@ module _ (r : List ℕ) (size : length r ≡ recordLength) (small : Bytes r) (e 
       (λ u.
       let none : 0 ≡ byteIn r atState = ap (λ (l : List ℕ). getD l atState 0) (rw u at again) in
       omega (arith, ltb-false 0 code u))
-
-  exact-wait : stateCode (taskFrom r .state) ≡ 6 → byteIn r atPlace ≡ 0
-  unfolding taskRecord
-  exact-wait six = sym (ap (λ (l : List ℕ). getD l atPlace 0) (rw six at again))
 
 -- a record whose code is 0 is exact exactly where it is blank, and it gives no task and stands in no queue
 module _ (b : List ℕ) (s : ℕ) (none : byteAt b s atState ≡ 0) where
@@ -77,33 +73,33 @@ module _ (b : List ℕ) (s : ℕ) (none : byteAt b s atState ≡ 0) where
   queue-none n = rw none
 
 -- past the last slot there is no task
-pub task-past : (n : ℕ) (b : List ℕ) (s : ℕ) → n ≤ s → taskAt (tableOf n b) s ≡ noTask
-task-past n b s g = List·getD-eq-default (tableOf n b .tasks) noTask (omega (arith, table-shaped n b n .tasks))
+pub task-past : (n ed : ℕ) (b : List ℕ) (s : ℕ) → n ≤ s → taskAt (tableOf n ed b) s ≡ noTask
+task-past n ed b s g = List·getD-eq-default (tableOf n ed b .tasks) noTask (omega (arith, table-shaped n ed b n .tasks))
 
-module _ (n : ℕ) (b : List ℕ) (whole : length b ≡ n * recordLength) where
+module _ (n ed : ℕ) (b : List ℕ) (whole : length b ≡ n * recordLength) where
   -- the task of any slot is its record's, and its queue too
-  pub task-is : (s : ℕ) → taskAt (tableOf n b) s ≡ taskFrom (recordAt recordLength b s)
+  pub task-is : (s : ℕ) → taskAt (tableOf n ed b) s ≡ taskFrom (recordAt recordLength b s)
   task-is s = elim (decLt s n) [
-    | yes l ↦ task-read n b n s (omega arith) l
-    | no g ↦ task-past n b s (omega arith) ∙ sym (task-none b s (List·getD-eq-default b 0 (omega arith)))
+    | yes l ↦ task-read n ed b n s (omega arith) l
+    | no g ↦ task-past n ed b s (omega arith) ∙ sym (task-none b s (List·getD-eq-default b 0 (omega arith)))
   ]
 
-  pub keys-are : (λ s. standing n (taskAt (tableOf n b) s)) ≡ queueIn n b
+  pub keys-are : (λ s. standing n (taskAt (tableOf n ed b) s)) ≡ queueIn n b
   keys-are = λ i s. (ap (standing n) (task-is s) ∙ sym (queue-read n b s)) i
 
-  rows-are : RowsMade (queuesFor n) n (queueIn n b) (λ s. byteAt b s atPlace) (tableOf n b .queues)
+  rows-are : RowsMade (queuesFor n) n (queueIn n b) (λ s. byteAt b s atPlace) (tableOf n ed b .queues)
   rows-are =
-      let made : tableOf n b .queues ≡ madeRows (queuesFor n) n (queueIn n b) (λ s. byteAt b s atPlace) n =
-      queues-made n b n ∙ (λ i. madeRows (queuesFor n) n (λ s. sym (queue-read n b s) i) (λ s. place-byte b s i) n) in
+      let made : tableOf n ed b .queues ≡ madeRows (queuesFor n) n (queueIn n b) (λ s. byteAt b s atPlace) n =
+      queues-made n ed b n ∙ (λ i. madeRows (queuesFor n) n (λ s. sym (queue-read n b s) i) (λ s. place-byte b s i) n) in
       rw made (rows-made (queuesFor n) n (queueIn n b) (λ s. byteAt b s atPlace) n)
 
   -- the rows are made from the records; where those from u on are unused, the first pass counts who stands in them
   pub rows-filled : (u : ℕ) → u ≤ n → ((s : ℕ) → u ≤ s → s < n → byteAt b s atState ≡ 0)
-      → Filled (queuesFor n) n (λ k. getD (countUpTo n b u) k 0) (queueIn n b) (λ s. byteAt b s atPlace) (tableOf n b .queues)
+      → Filled (queuesFor n) n (λ k. getD (countUpTo n b u) k 0) (queueIn n b) (λ s. byteAt b s atPlace) (tableOf n ed b .queues)
   rows-filled u h rest =
       record {
         made = rows-are;
-        shaped = table-shaped n b n .queues;
+        shaped = table-shaped n ed b n .queues;
         counted = λ k l.
             count-is n b u k l
             ∙ below-rest (λ s. eqb (queueIn n b s) k) u n h
@@ -117,9 +113,5 @@ module _ (n : ℕ) (b : List ℕ) (whole : length b ≡ n * recordLength) where
     pub record-small : Bytes (recordAt recordLength b s)
     record-small = part-small b small (s * recordLength) recordLength
 
-    pub code-is : exactRecord (recordAt recordLength b s) ≡ true → stateCode (taskAt (tableOf n b) s .state) ≡ byteAt b s atState
+    pub code-is : exactRecord (recordAt recordLength b s) ≡ true → stateCode (taskAt (tableOf n ed b) s .state) ≡ byteAt b s atState
     code-is e = rw (task-is s) (exact-code _ record-size record-small e ∙ byte-in b s atState (omega arith))
-
-    pub waits-first : exactRecord (recordAt recordLength b s) ≡ true → stateCode (taskAt (tableOf n b) s .state) ≡ 6 → byteAt b s atPlace ≡ 0
-    waits-first e six =
-        sym (byte-in b s atPlace (omega arith)) ∙ exact-wait _ record-size record-small e (rw (task-is s) at six)

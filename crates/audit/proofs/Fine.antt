@@ -13,6 +13,7 @@ use Rattle.queue.specs.Choose.{allBelow}
 use Rattle.queue.specs.Numbering.{sendQueue, queuesFor}
 use Rattle.queue.proofs.Below.{both-true, true-both, all-below, below-all}
 use Rattle.task.proofs.Tests.{implied, implies}
+use Rattle.kernel.specs.Edition.{isEdition}
 use Rattle.image.specs.Bytes.{recordAt}
 use Rattle.image.specs.Record.{recordLength, atState, atPlace, byteAt}
 use Rattle.audit.specs.Survey.{queueIn}
@@ -20,16 +21,17 @@ use Rattle.audit.specs.Sound.{recordSound}
 use Rattle.audit.specs.Audit.{restBlank, quietCode, judgedAt, slotAsked, asked}
 use Rattle.audit.proofs.Ranks.{Fit, ranked-fit, fit-ranked}
 
-module _ (n : ℕ) (b : List ℕ) (used active : ℕ) (count : List ℕ) where
+module _ (n ed : ℕ) (b : List ℕ) (used active : ℕ) (count : List ℕ) where
   -- what is asked of the record of a used slot
   pub record Judged (s : ℕ) : Type 0 where
     pub alone : byteAt b s atState ≡ 1 → s ≡ active
     pub quiet : quietCode (byteAt b s atState) ≡ true → getD count (sendQueue s) 0 ≡ 0
-    pub sound : recordSound used s (recordAt recordLength b s) ≡ true
+    pub sound : recordSound ed used s (recordAt recordLength b s) ≡ true
     pub fit : queueIn n b s < queuesFor n → Fit (λ k. getD count k 0) (queueIn n b) (λ i. byteAt b i atPlace) s
 
   -- and of all records
   pub record Fine : Type 0 where
+    pub edition : isEdition ed ≡ true
     pub some : 1 ≤ used
     pub blank : (s : ℕ) → used ≤ s → s < n → (j : ℕ) → j < recordLength → byteAt b s j ≡ 0
     pub each : (s : ℕ) → s < used → Judged s
@@ -66,9 +68,9 @@ module _ (n : ℕ) (b : List ℕ) (used active : ℕ) (count : List ℕ) where
     abbrev many : ℕ → ℕ
     many k = getD count k 0
 
-    judged-facts : slotAsked n b used active count s ≡ true → Judged s
+    judged-facts : slotAsked n ed b used active count s ≡ true → Judged s
     judged-facts e =
-        let (judged, rank) = both-true (judgedAt b used active (getD count (sendQueue s) 0) s) _ e in
+        let (judged, rank) = both-true (judgedAt ed b used active (getD count (sendQueue s) 0) s) _ e in
         let (two, sound) = both-true (alone-test && quiet-test) _ judged in
         let (alone, quiet) = both-true alone-test quiet-test two in
         record {
@@ -78,7 +80,7 @@ module _ (n : ℕ) (b : List ℕ) (used active : ℕ) (count : List ℕ) where
           fit = ranked-fit (queuesFor n) many (queueIn n b) (λ i. byteAt b i atPlace) s rank;
         }
 
-    facts-judged : Judged s → slotAsked n b used active count s ≡ true
+    facts-judged : Judged s → slotAsked n ed b used active count s ≡ true
     facts-judged f =
         true-both
         (true-both
@@ -88,27 +90,29 @@ module _ (n : ℕ) (b : List ℕ) (used active : ℕ) (count : List ℕ) where
         (f .sound))
         (fit-ranked (queuesFor n) many (queueIn n b) (λ i. byteAt b i atPlace) s (f .fit))
 
-  pub asked-fine : asked n b used active count ≡ true → Fine
+  pub asked-fine : asked n ed b used active count ≡ true → Fine
   unfolding asked
   asked-fine e =
-      let judged = allBelow used (slotAsked n b used active count) in
-      let (three, last) = both-true (leb 1 used && restBlank n b used && judged) _ e in
-      let (two, each) = both-true (leb 1 used && restBlank n b used) judged three in
-      let (some, rest) = both-true (leb 1 used) (restBlank n b used) two in
+      let judged = allBelow used (slotAsked n ed b used active count) in
+      let (four, last) = both-true (isEdition ed && leb 1 used && restBlank n b used && judged) _ e in
+      let (three, each) = both-true (isEdition ed && leb 1 used && restBlank n b used) judged four in
+      let (two, rest) = both-true (isEdition ed && leb 1 used) (restBlank n b used) three in
+      let (edition, some) = both-true (isEdition ed) (leb 1 used) two in
       record {
+        edition = edition;
         some = leb-true 1 used some;
         blank = blank-facts rest;
-        each = λ s l. judged-facts s (all-below used (slotAsked n b used active count) each s l);
+        each = λ s l. judged-facts s (all-below used (slotAsked n ed b used active count) each s l);
         ready = λ none p l. eqb-true _ 0 (all-below priorities (λ p. eqb (getD count p 0) 0) (rw (le-ltb active n none) at last) p l);
       }
 
-  pub fine-asked : Fine → asked n b used active count ≡ true
+  pub fine-asked : Fine → asked n ed b used active count ≡ true
   unfolding asked
   fine-asked f =
       true-both
       (true-both
-      (true-both (le-leb 1 used (f .some)) (facts-blank (f .blank)))
-      (below-all used (slotAsked n b used active count) (λ s l. facts-judged s (f .each s l))))
+      (true-both (true-both (f .edition) (le-leb 1 used (f .some))) (facts-blank (f .blank)))
+      (below-all used (slotAsked n ed b used active count) (λ s l. facts-judged s (f .each s l))))
       (elim (decLt active n) [
         | yes l ↦ rw (lt-ltb active n l)
         | no g ↦

@@ -23,55 +23,55 @@ abbrev placeGood : ℕ → List ℕ → List ℕ → ℕ → Bool
 placeGood n b count s = ranked (queuesFor n) (λ k. getD count k 0) (queueIn n b) (λ i. byteAt b i atPlace) s
 
 -- every slot before s passed
-pub record Passed (n : ℕ) (b : List ℕ) (used active : ℕ) (count base taken : List ℕ) (given s : ℕ) : Type 0 where
-  pub told : Tells used (slotAsked n b used active count) true s
+pub record Passed (n ed : ℕ) (b : List ℕ) (used active : ℕ) (count base taken : List ℕ) (given s : ℕ) : Type 0 where
+  pub told : Tells used (slotAsked n ed b used active count) true s
   pub runs : Runs (queuesFor n) used count (queueIn n b) (λ i. byteAt b i atPlace) base taken given s
 
 -- slot s is the next, and its record is good; k is its queue
-pub record Next (n : ℕ) (b : List ℕ) (used active : ℕ) (count base taken : List ℕ) (given s k : ℕ) : Type 0 where
-  pub passed : Passed n b used active count base taken given s
+pub record Next (n ed : ℕ) (b : List ℕ) (used active : ℕ) (count base taken : List ℕ) (given s k : ℕ) : Type 0 where
+  pub passed : Passed n ed b used active count base taken given s
   pub more : s < used
-  pub good : judgedAt b used active (getD count (sendQueue s) 0) s ≡ true
+  pub good : judgedAt ed b used active (getD count (sendQueue s) 0) s ≡ true
   pub own : k ≡ queueIn n b s
 
 -- the queue has a run, and the place is one of it
-pub record Placed (n : ℕ) (b : List ℕ) (used active : ℕ) (count base taken : List ℕ) (given s k : ℕ) : Type 0 where
-  pub next : Next n b used active count base taken given s k
+pub record Placed (n ed : ℕ) (b : List ℕ) (used active : ℕ) (count base taken : List ℕ) (given s k : ℕ) : Type 0 where
+  pub next : Next n ed b used active count base taken given s k
   pub has : 0 < getD base k 0
   pub fits : byteAt b s atPlace < getD count k 0
 
-pub passed-none : (n : ℕ) (b : List ℕ) (used active : ℕ) (count : List ℕ) → used ≤ n
-    → Passed n b used active count (replicate (queuesFor n) 0) (replicate n 0) 0 0
-passed-none n b used active count h =
+pub passed-none : (n ed : ℕ) (b : List ℕ) (used active : ℕ) (count : List ℕ) → used ≤ n
+    → Passed n ed b used active count (replicate (queuesFor n) 0) (replicate n 0) 0 0
+passed-none n ed b used active count h =
     record {
-      told = tells-none used (slotAsked n b used active count);
+      told = tells-none used (slotAsked n ed b used active count);
       runs = runs-none (queuesFor n) n used count (queueIn n b) (λ i. byteAt b i atPlace) h;
     }
 
 told-more : {n s : ℕ} {p : ℕ → Bool} → Tells n p true s → s < n → p s ≡ true → Tells n p true (s + 1)
 told-more w h e = record { most = omega arith; tells = rw (all-more, ← w .tells, e) }
 
-module _ {n : ℕ} {b : List ℕ} {used active : ℕ} {count base taken : List ℕ} {given s : ℕ} where
+module _ {n ed : ℕ} {b : List ℕ} {used active : ℕ} {count base taken : List ℕ} {given s : ℕ} where
   -- what is judged of the next slot
-  module _ (w : Passed n b used active count base taken given s) (more : s < used) (j : Bool)
-      (e : j ≡ judgedAt b used active (getD count (sendQueue s) 0) s) where
-    pub unjudged : not j ≡ true → false ≡ allBelow used (slotAsked n b used active count)
-    unjudged bad = sym (one-fails used (slotAsked n b used active count) {i = s} more (rw (← e, not-true j bad)))
+  module _ (w : Passed n ed b used active count base taken given s) (more : s < used) (j : Bool)
+      (e : j ≡ judgedAt ed b used active (getD count (sendQueue s) 0) s) where
+    pub unjudged : not j ≡ true → false ≡ allBelow used (slotAsked n ed b used active count)
+    unjudged bad = sym (one-fails used (slotAsked n ed b used active count) {i = s} more (rw (← e, not-true j bad)))
 
-    pub judged-next : not j ≡ false → (k : ℕ) → k ≡ queueIn n b s → Next n b used active count base taken given s k
+    pub judged-next : not j ≡ false → (k : ℕ) → k ≡ queueIn n b s → Next n ed b used active count base taken given s k
     judged-next good k own = record { passed = w; more = more; good = sym e ∙ not-false j good; own = own }
 
-  module _ {k : ℕ} (x : Next n b used active count base taken given s k) where
-    passes : placeGood n b count s ≡ true → Tells used (slotAsked n b used active count) true (s + 1)
+  module _ {k : ℕ} (x : Next n ed b used active count base taken given s k) where
+    passes : placeGood n b count s ≡ true → Tells used (slotAsked n ed b used active count) true (s + 1)
     passes r = told-more (x .passed .told) (x .more) (true-both (x .good) r)
 
-    fails : placeGood n b count s ≡ false → false ≡ allBelow used (slotAsked n b used active count)
+    fails : placeGood n b count s ≡ false → false ≡ allBelow used (slotAsked n ed b used active count)
     fails bad =
-        sym (one-fails used (slotAsked n b used active count) {i = s} (x .more)
-        (rw bad (and-false (judgedAt b used active (getD count (sendQueue s) 0) s))))
+        sym (one-fails used (slotAsked n ed b used active count) {i = s} (x .more)
+        (rw bad (and-false (judgedAt ed b used active (getD count (sendQueue s) 0) s))))
 
     -- a slot that stands in no queue
-    pub passed-past : queuesFor n ≤ k → Passed n b used active count base taken given (s + 1)
+    pub passed-past : queuesFor n ≤ k → Passed n ed b used active count base taken given (s + 1)
     passed-past past =
         let past′ : queuesFor n ≤ queueIn n b s = rw (x .own) at past in
         record {
@@ -80,7 +80,7 @@ module _ {n : ℕ} {b : List ℕ} {used active : ℕ} {count base taken : List �
         }
 
     -- a place that is not below the number of those who stand there
-    pub placed-high : k < queuesFor n → getD count k 0 ≤ byteAt b s atPlace → false ≡ allBelow used (slotAsked n b used active count)
+    pub placed-high : k < queuesFor n → getD count k 0 ≤ byteAt b s atPlace → false ≡ allBelow used (slotAsked n ed b used active count)
     placed-high low high =
         fails
         (ranked-high (queuesFor n) (λ j. getD count j 0) (queueIn n b) (λ i. byteAt b i atPlace) s k (byteAt b s atPlace) (x .own) refl
@@ -96,7 +96,7 @@ module _ {n : ℕ} {b : List ℕ} {used active : ℕ} {count base taken : List �
 
       pub placed-fresh : {base′ : List ℕ} {given′ : ℕ} → base′ ≡ set base k (given + 1) → given′ ≡ given + getD count k 0
           → byteAt b s atPlace < getD count k 0
-          → Placed n b used active count base′ taken given′ s k
+          → Placed n ed b used active count base′ taken given′ s k
       placed-fresh e e′ fits =
           rw (e, e′)
           (record {
@@ -108,11 +108,11 @@ module _ {n : ℕ} {b : List ℕ} {used active : ℕ} {count base taken : List �
     -- a later one
     pub placed-kept : getD base k 0 ≢ 0 → {base′ : List ℕ} {given′ : ℕ} → base′ ≡ base → given′ ≡ given
         → byteAt b s atPlace < getD count k 0
-        → Placed n b used active count base′ taken given′ s k
+        → Placed n ed b used active count base′ taken given′ s k
     placed-kept some e e′ fits = rw (e, e′) (record { next = x; has = omega arith; fits = fits })
 
   -- at place q of the run that starts at f - 1
-  module _ {k : ℕ} (x : Placed n b used active count base taken given s k) (f q : ℕ) (first : f ≡ getD base k 0) (at : q ≡ byteAt b s atPlace) where
+  module _ {k : ℕ} (x : Placed n ed b used active count base taken given s k) (f q : ℕ) (first : f ≡ getD base k 0) (at : q ≡ byteAt b s atPlace) where
     pub placed-inside : f - 1 + q < used
     placed-inside =
         omega (arith, run-inside (x .next .passed .runs) k (byteAt b s atPlace) (x .has) (x .fits), runs-most (x .next .passed .runs))
@@ -120,10 +120,10 @@ module _ {n : ℕ} {b : List ℕ} {used active : ℕ} {count base taken : List �
     rank : placeGood n b count s ≡ eqb (getD taken (f - 1 + q) 0) 0
     rank = rw (first, at) (ranked-run (x .next .passed .runs) k (byteAt b s atPlace) (x .next .own) refl (x .has) (x .fits))
 
-    pub placed-twice : getD taken (f - 1 + q) 0 ≢ 0 → false ≡ allBelow used (slotAsked n b used active count)
+    pub placed-twice : getD taken (f - 1 + q) 0 ≢ 0 → false ≡ allBelow used (slotAsked n ed b used active count)
     placed-twice some = fails (x .next) (rank ∙ ne-eqb (getD taken (f - 1 + q) 0) 0 some)
 
-    pub passed-more : getD taken (f - 1 + q) 0 ≡ 0 → Passed n b used active count base (set taken (f - 1 + q) 1) given (s + 1)
+    pub passed-more : getD taken (f - 1 + q) 0 ≡ 0 → Passed n ed b used active count base (set taken (f - 1 + q) 1) given (s + 1)
     passed-more none =
         record {
           told = passes (x .next) (rank ∙ eq-eqb (getD taken (f - 1 + q) 0) 0 none);

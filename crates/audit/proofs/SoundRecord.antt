@@ -1,9 +1,9 @@
 -- The record of a used slot is sound exactly where it is what its task is written as, and its task keeps the rules of one slot; and
 -- the queue that a record's bytes tell is its task's.
-use Prim.Native.Nat.{ℕ, suc, _^_, _<_}
+use Prim.Native.Nat.{ℕ, suc, _+_, _^_, _<_}
 use mathlib.Core.Path.{_≡_, refl, sym, _∙_}
 use mathlib.Core.Logic.{_≢_}
-use mathlib.Core.Bool.{Bool, true, false, _&&_, _||_, and-true, and-false, and-comm, and-assoc}
+use mathlib.Core.Bool.{Bool, true, false, not, _&&_, _||_, and-true, and-false, and-comm, and-assoc}
 use mathlib.Core.List.{List}
 use native.Mathlib.Numerals.{add-two}
 use native.Mathlib.Omega.{arith}
@@ -21,6 +21,7 @@ use Rattle.task.specs.Task.{firstNegative, noTask, isWord, goodBuffer, isReady}
 use Rattle.task.specs.Result.{negated}
 use Rattle.task.specs.Standing.{queueOf}
 use Rattle.task.proofs.Tests.{chosen, clash}
+use Rattle.kernel.specs.Edition.{mayWait}
 use Rattle.rules.specs.Good.{goodResult, isNothing, goodParent, goodState, goodUsed}
 use Rattle.image.specs.declared.fields.ResultParts.{ResultParts}
 use Rattle.image.specs.Bytes.{numberIn, recordAt}
@@ -31,7 +32,7 @@ use Rattle.image.proofs.Bytes.{byte-in}
 use Rattle.image.proofs.Made.{tests, eqb-same, cut-exact}
 use Rattle.image.proofs.Rebuilt.{Bytes, number-small}
 use Rattle.audit.specs.Survey.{queueIn}
-use Rattle.audit.specs.Sound.{blankWord, resultSound, noResult, targetSound, unplacedSound, fieldsSound, recordSound}
+use Rattle.audit.specs.Sound.{blankWord, resultSound, noResult, targetSound, waiterSound, unplacedSound, fieldsSound, recordSound}
 
 -- Tests that all pass, in another order.
 
@@ -41,19 +42,25 @@ and-left false b c = sym (and-false b)
 
 ruleset sorted = (and-assoc, and-comm, and-left)
 
-unplaced-order : (e x i p g : Bool) → (x && i && (p && (e && g))) ≡ (e && x && p && (g && i))
-unplaced-order e x i p g = simp sorted
+unplaced-order : (e x i p g : Bool) → (x && i && (p && (e && g))) ≡ (e && x && p && (g && i) && true)
+unplaced-order e x i p g = simp (and-true, sorted)
 
-receiver-order : (x i t m r : Bool) → (x && i && (t && m && r)) ≡ (x && true && (m && r && t && true && i))
+receiver-order : (x i t m r : Bool) → (x && i && (t && m && r)) ≡ (x && true && (m && r && t && true && i) && true)
 receiver-order x i t m r = simp (and-true, sorted)
 
--- n tells whether the entry number fits its word: it always does
-record-order : (p z e x k g i : Bool) {n : Bool} → n ≡ true → (p && z && (e && x && k && (g && i))) ≡ (e && x && k && (p && z && g && i && n))
-record-order p z e x k g i fits = rw fits (simp (and-true, sorted))
+waiter-order : (x i l w ms ml rs rl : Bool)
+    → (x && (i && (l && (ms && (ml && (rs && (rl && w))))))) ≡ (ms && (ml && (rs && (rl && (x && (l && (i && w)))))))
+waiter-order x i l w ms ml rs rl = simp sorted
 
--- two tests that fail
-skipped : (a b n z : Bool) {two four : Bool} → two ≡ false → four ≡ false → choose two a (n && choose four b z) ≡ (n && z)
-skipped a b n z e f = rw (e, f)
+-- n tells whether the entry number fits its word: it always does
+record-order : (p z e x k g i w : Bool) {n : Bool} → n ≡ true
+    → (p && z && (e && x && k && (g && i) && w)) ≡ (e && x && k && (p && z && g && i && n) && w)
+record-order p z e x k g i w fits = rw fits (simp (and-true, sorted))
+
+-- three tests that fail
+skipped : (a b c n z : Bool) {two four six : Bool} → two ≡ false → four ≡ false → six ≡ false
+    → choose two a (n && choose four b (choose six c z)) ≡ (n && z)
+skipped a b c n z e f g = rw (e, f, g)
 
 -- the four bytes of a buffer are 0 exactly where its two numbers are
 blank-buffer : (r : List ℕ) (at : ℕ) → blankWord r at ≡ (eqb (bufferIn r at .start) 0 && eqb (bufferIn r at .len) 0)
@@ -108,14 +115,16 @@ abbrev exactState : ℕ → ℕ → Buffer → Buffer → Bool
 exactState code awaited message reply =
     sameParts (partsOf (stateOf code awaited message reply)) (record { code = code; awaited = awaited; message = message; reply = reply })
 
--- what is asked of a state but ready and receive-blocked; m and r tell whether its buffers are 0
-abbrev unplacedHeld : ℕ → ℕ → Buffer → Buffer → Bool → Bool → Bool
-unplacedHeld code awaited message reply m r =
-    choose (eqb code 6) (ltb awaited events && (m && r))
-    (eqb awaited 0
-    && choose (eqb code 3) (goodBuffer message && r)
+-- what is asked of a state in which a task stands in no queue, beside its number; m and r tell whether its buffers are 0
+abbrev unplacedHeld : ℕ → Buffer → Buffer → Bool → Bool → Bool
+unplacedHeld code message reply m r =
+    choose (eqb code 3) (goodBuffer message && r)
     (choose (eqb code 5) (m && goodBuffer reply)
-    ((eqb code 1 || eqb code 7) && (m && r))))
+    ((eqb code 1 || eqb code 7) && (m && r)))
+
+-- a task that waits for an event has a place that the edition lets it have
+abbrev pub placeFits : ℕ → ℕ → ℕ → Bool
+placeFits ed code place = not (eqb code 6) || mayWait ed (place + 1)
 
 module _ (code awaited : ℕ) (message reply : Buffer) where
   -- only code 2 is ready
@@ -133,67 +142,78 @@ module _ (code awaited : ℕ) (message reply : Buffer) where
 
   module _ (used s : ℕ) {m r : Bool} (some : eqb code 0 ≡ false)
       (em : m ≡ (eqb (message .start) 0 && eqb (message .len) 0)) (er : r ≡ (eqb (reply .start) 0 && eqb (reply .len) 0)) where
-    -- a state but these two is exact and good
-    unplaced-sound : eqb code 2 ≡ false → eqb code 4 ≡ false
-        → unplacedHeld code awaited message reply m r
+    -- a state in which a task stands in no queue is exact and good
+    unplaced-sound : eqb code 2 ≡ false → eqb code 4 ≡ false → eqb code 6 ≡ false
+        → (eqb awaited 0 && unplacedHeld code message reply m r)
         ≡ (exactState code awaited message reply && goodState used s (stateOf code awaited message reply))
-    unplaced-sound n₂ n₄ =
+    unplaced-sound n₂ n₄ n₆ =
         by-test (eqb code 1) (λ e. rw (eqb-true code 1 e) (simp (em, er, tests)))
         (λ n₁. by-test (eqb code 3) (λ e. rw (eqb-true code 3 e, and-comm (goodBuffer message) r) (simp (er, tests)))
         (λ n₃. by-test (eqb code 5) (λ e. rw (eqb-true code 5 e) (simp (em, tests)))
-        (λ n₅. by-test (eqb code 6) (λ e. rw (eqb-true code 6 e, and-comm (ltb awaited events) (m && r)) (simp (em, er, tests)))
-        (λ n₆. by-test (eqb code 7) (λ e. rw (eqb-true code 7 e) (simp (em, er, tests)))
-        (λ n₇. rw (n₁, n₂, n₃, n₄, n₅, n₆, n₇) (simp (some, tests)))))))
+        (λ n₅. by-test (eqb code 7) (λ e. rw (eqb-true code 7 e) (simp (em, er, tests)))
+        (λ n₇. rw (n₁, n₂, n₃, n₄, n₅, n₆, n₇) (simp (some, tests))))))
 
     -- and any state with its place and its result: x tells whether the result is exact, g whether it is good, i whether it is nothing
-    state-sound : (place : ℕ) (x g i n t : Bool) → n ≡ (x && i) → t ≡ (x && g)
+    state-sound : (ed place : ℕ) (x g i n t : Bool) → n ≡ (x && i) → t ≡ (x && g)
         → choose (eqb code 2) (eqb awaited 0 && (m && r) && t)
         (n
         && choose (eqb code 4) (targetSound used s awaited && goodBuffer message && goodBuffer reply)
-        (eqb place 0 && unplacedHeld code awaited message reply m r))
+        (choose (eqb code 6) (ltb awaited events && (m && r) && mayWait ed (place + 1))
+        (eqb place 0 && eqb awaited 0 && unplacedHeld code message reply m r)))
         ≡ (exactState code awaited message reply && x && exactPlace code place
-        && (goodState used s (stateOf code awaited message reply) && choose (isReady (stateOf code awaited message reply)) g i))
-    state-sound place x g i n t en et =
+        && (goodState used s (stateOf code awaited message reply) && choose (isReady (stateOf code awaited message reply)) g i)
+        && placeFits ed code place)
+    state-sound ed place x g i n t en et =
         by-test (eqb code 2) (λ e. rw (eqb-true code 2 e) (simp (em, er, et, tests)))
         (λ n₂. by-test (eqb code 4)
         (λ e. rw (eqb-true code 4 e, en) (simp eqb-same (receiver-order x i (targetSound used s awaited) (goodBuffer message) (goodBuffer reply))))
-        (λ n₄.
+        (λ n₄. by-test (eqb code 6)
+        (λ e. rw (eqb-true code 6 e, en) (simp (em, er, tests)
+        (waiter-order x i (ltb awaited events) (mayWait ed (place + 1))
+        (eqb (message .start) 0) (eqb (message .len) 0) (eqb (reply .start) 0) (eqb (reply .len) 0))))
+        (λ n₆.
         let exact = exactState code awaited message reply in
         let st = stateOf code awaited message reply in
-        let placed : exactPlace code place ≡ eqb place 0 = rw (n₂, n₄) in
+        let placed : exactPlace code place ≡ eqb place 0 = rw (n₂, n₄, n₆) in
+        let fits : placeFits ed code place ≡ true = rw n₆ in
         let sending = targetSound used s awaited && goodBuffer message && goodBuffer reply in
-        skipped (eqb awaited 0 && (m && r) && t) sending n (eqb place 0 && unplacedHeld code awaited message reply m r) n₂ n₄
-        ∙ rw (en, unplaced-sound n₂ n₄, not-ready n₂, placed) (unplaced-order exact x i (eqb place 0) (goodState used s st))))
+        let waiting = ltb awaited events && (m && r) && mayWait ed (place + 1) in
+        let held = unplacedHeld code message reply m r in
+        skipped (eqb awaited 0 && (m && r) && t) sending waiting n (eqb place 0 && eqb awaited 0 && held) n₂ n₄ n₆
+        ∙ rw (en, and-assoc (eqb place 0) (eqb awaited 0) held, unplaced-sound n₂ n₄ n₆, not-ready n₂, placed, fits)
+        (unplaced-order exact x i (eqb place 0) (goodState used s st)))))
 
 -- so what the fields are asked is what the record and its task are asked beside the priority, the parent and the entry number
-module _ (used s : ℕ) (r : List ℕ) (small : Bytes r) (none : eqb (byteIn r atState) 0 ≡ false) where
+module _ (ed used s : ℕ) (r : List ℕ) (small : Bytes r) (none : eqb (byteIn r atState) 0 ≡ false) where
   fields-sound : let o = resultPartsIn r in
       let st = stateFrom (partsIn r) in
-      fieldsSound used s r
+      fieldsSound ed used s r
       ≡ (sameParts (partsOf st) (partsIn r) && sameResultParts (resultPartsOf (resultOf o)) o && exactPlace (byteIn r atState) (byteIn r atPlace)
-      && (goodState used s st && choose (isReady st) (goodResult used (resultOf o)) (isNothing (resultOf o))))
-  unfolding fieldsSound unplacedSound resultSound
+      && (goodState used s st && choose (isReady st) (goodResult used (resultOf o)) (isNothing (resultOf o)))
+      && placeFits ed (byteIn r atState) (byteIn r atPlace))
+  unfolding fieldsSound waiterSound unplacedSound resultSound
   fields-sound =
       let o = resultPartsIn r in
       let result = resultOf o in
       state-sound (byteIn r atState) (byteIn r atAwaited) (bufferIn r atMessage) (bufferIn r atReply) used s none
       (blank-buffer r atMessage) (blank-buffer r atReply)
-      (byteIn r atPlace) (sameResultParts (resultPartsOf result) o) (goodResult used result) (isNothing result) (noResult r) (resultSound used r)
+      ed (byteIn r atPlace) (sameResultParts (resultPartsOf result) o) (goodResult used result) (isNothing result) (noResult r) (resultSound used r)
       (no-result o) (result-sound used o (number-small 4 atWord r small))
 
--- the test of the bytes is that of the record and its task
-pub sound-record : (used s : ℕ) (r : List ℕ) → Bytes r → byteIn r atState ≢ 0
-    → recordSound used s r ≡ (exactRecord r && goodUsed used s (taskFrom r))
+-- the test of the bytes is that of the record and its task, and of its place if it waits for an event
+pub sound-record : (ed used s : ℕ) (r : List ℕ) → Bytes r → byteIn r atState ≢ 0
+    → recordSound ed used s r ≡ (exactRecord r && goodUsed used s (taskFrom r) && placeFits ed (byteIn r atState) (byteIn r atPlace))
 unfolding recordSound exactRecord taskFrom usedFrom
-sound-record used s r small some =
+sound-record ed used s r small some =
     let none = ne-eqb (byteIn r atState) 0 some in
     let o = resultPartsIn r in
     let st = stateFrom (partsIn r) in
     let entry : isWord (numberIn r atEntry 4) ≡ true = lt-ltb (numberIn r atEntry 4) (2 ^ 32) (number-small 4 atEntry r small) in
-    rw (none, fields-sound used s r small none)
+    rw (none, fields-sound ed used s r small none)
     (record-order (ltb (byteIn r atPriority) priorities) (goodParent s (byteIn r atParent))
     (sameParts (partsOf st) (partsIn r)) (sameResultParts (resultPartsOf (resultOf o)) o) (exactPlace (byteIn r atState) (byteIn r atPlace))
-    (goodState used s st) (choose (isReady st) (goodResult used (resultOf o)) (isNothing (resultOf o))) entry)
+    (goodState used s st) (choose (isReady st) (goodResult used (resultOf o)) (isNothing (resultOf o)))
+    (placeFits ed (byteIn r atState) (byteIn r atPlace)) entry)
 
 -- the queue that a task stands in, by the code of its state
 queue-told : (none code priority parent awaited entry : ℕ) (message reply : Buffer) (result : Result)

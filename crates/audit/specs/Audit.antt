@@ -7,6 +7,7 @@ use lib.Dec.{eqb, ltb, leb}
 use Rattle.tid.specs.Sizes.{priorities}
 use Rattle.queue.specs.Choose.{choose, allBelow}
 use Rattle.queue.specs.Numbering.{sendQueue, queuesFor}
+use Rattle.kernel.specs.Edition.{isEdition}
 use Rattle.image.specs.Bytes.{recordAt}
 use Rattle.image.specs.Record.{recordLength, atState, atPlace, byteAt}
 use Rattle.image.specs.Image.{isImage}
@@ -29,29 +30,31 @@ abbrev pub quietCode : ℕ → Bool
 quietCode code = eqb code 3 || eqb code 7
 
 -- a sound record, of the active slot if it is active, with no queued sender if it is send-blocked or has exited
-abbrev pub judgedAt : List ℕ → ℕ → ℕ → ℕ → ℕ → Bool
-judgedAt b used active senders s =
+abbrev pub judgedAt : ℕ → List ℕ → ℕ → ℕ → ℕ → ℕ → Bool
+judgedAt ed b used active senders s =
     (not (eqb (byteAt b s atState) 1) || eqb s active)
     && (not (quietCode (byteAt b s atState)) || eqb senders 0)
-    && recordSound used s (recordAt recordLength b s)
+    && recordSound ed used s (recordAt recordLength b s)
 
 -- what is asked of the record of a used slot, given how many stand in each queue
-abbrev pub slotAsked : ℕ → List ℕ → ℕ → ℕ → List ℕ → ℕ → Bool
-slotAsked n b used active count s =
-    judgedAt b used active (getD count (sendQueue s) 0) s
+abbrev pub slotAsked : ℕ → ℕ → List ℕ → ℕ → ℕ → List ℕ → ℕ → Bool
+slotAsked n ed b used active count s =
+    judgedAt ed b used active (getD count (sendQueue s) 0) s
     && ranked (queuesFor n) (λ k. getD count k 0) (queueIn n b) (λ i. byteAt b i atPlace) s
 
--- what is asked of n records of which `used` are used: proofs/Asked shows that it is whether they are the image of a good table
-unfoldable pub asked : ℕ → List ℕ → ℕ → ℕ → List ℕ → Bool
-asked n b used active count =
-    leb 1 used
+-- what is asked of n records of which `used` are used, in an edition: proofs/Asked shows that it is whether they are the image of a good
+-- table
+unfoldable pub asked : ℕ → ℕ → List ℕ → ℕ → ℕ → List ℕ → Bool
+asked n ed b used active count =
+    isEdition ed
+    && leb 1 used
     && restBlank n b used
-    && allBelow used (slotAsked n b used active count)
+    && allBelow used (slotAsked n ed b used active count)
     && (ltb active n || allBelow priorities (λ p. eqb (getD count p 0) 0))
 
 -- whether the bytes are the image of a good table of n slots, and what the first pass saw
-unfoldable pub foundIn : ℕ → List ℕ → Found
-foundIn n b =
+unfoldable pub foundIn : ℕ → ℕ → List ℕ → Found
+foundIn n ed b =
     choose (eqb (length b) (n * recordLength))
-    (record { good = isImage n b; used = usedIn n b; active = activeUpTo n b (usedIn n b); count = countUpTo n b (usedIn n b) })
+    (record { good = isImage n ed b; used = usedIn n b; active = activeUpTo n b (usedIn n b); count = countUpTo n b (usedIn n b) })
     (record { good = false; used = 0; active = n; count = replicate (queuesFor n) 0 })

@@ -9,6 +9,7 @@ use Rattle.tid.specs.Tid.{tidOf}
 use Rattle.queue.specs.Choose.{choose}
 use Rattle.task.specs.Task.{firstNegative}
 use Rattle.task.specs.Result.{negated}
+use Rattle.kernel.specs.Edition.{mayWait}
 use Rattle.rules.specs.Good.{goodParent}
 use Rattle.image.specs.Bytes.{numberIn}
 use Rattle.image.specs.Record.{atState, atPriority, atParent, atPlace, atAwaited, atResult, atMessage, atReply, atFrom, atCut, atWord, byteIn}
@@ -42,28 +43,32 @@ noBuffers r = blankWord r atMessage && blankWord r atReply
 abbrev pub targetSound : ℕ → ℕ → ℕ → Bool
 targetSound used s target = leb 1 target && leb target used && not (eqb target (tidOf s))
 
--- what a state but ready and receive-blocked holds
+-- what a task that waits for an event holds: an event that there is, and a place that the edition lets it have
+unfoldable pub waiterSound : ℕ → List ℕ → Bool
+waiterSound ed r = ltb (byteIn r atAwaited) events && noBuffers r && mayWait ed (byteIn r atPlace + 1)
+
+-- what a state holds in which a task stands in no queue
 unfoldable pub unplacedSound : List ℕ → Bool
 unplacedSound r =
     let code = byteIn r atState in
-    let awaited = byteIn r atAwaited in
-    choose (eqb code 6) (ltb awaited events && noBuffers r)
-    (eqb awaited 0
+    eqb (byteIn r atPlace) 0
+    && eqb (byteIn r atAwaited) 0
     && choose (eqb code 3) (fitsArea r atMessage && blankWord r atReply)
     (choose (eqb code 5) (blankWord r atMessage && fitsArea r atReply)
-    ((eqb code 1 || eqb code 7) && noBuffers r)))
+    ((eqb code 1 || eqb code 7) && noBuffers r))
 
 -- what the state of a task says of the other fields
-unfoldable pub fieldsSound : ℕ → ℕ → List ℕ → Bool
-fieldsSound used s r =
+unfoldable pub fieldsSound : ℕ → ℕ → ℕ → List ℕ → Bool
+fieldsSound ed used s r =
     let code = byteIn r atState in
     let awaited = byteIn r atAwaited in
     choose (eqb code 2) (eqb awaited 0 && noBuffers r && resultSound used r)
     (noResult r
     && choose (eqb code 4) (targetSound used s awaited && fitsArea r atMessage && fitsArea r atReply)
-    (eqb (byteIn r atPlace) 0 && unplacedSound r))
+    (choose (eqb code 6) (waiterSound ed r)
+    (unplacedSound r)))
 
 -- a record of which all this is so; its entry number may be any
-unfoldable pub recordSound : ℕ → ℕ → List ℕ → Bool
-recordSound used s r =
-    ltb (byteIn r atPriority) priorities && goodParent s (byteIn r atParent) && fieldsSound used s r
+unfoldable pub recordSound : ℕ → ℕ → ℕ → List ℕ → Bool
+recordSound ed used s r =
+    ltb (byteIn r atPriority) priorities && goodParent s (byteIn r atParent) && fieldsSound ed used s r

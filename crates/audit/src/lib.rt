@@ -16,6 +16,7 @@ use crate::places::all_judged;
 use crate::survey::surveyed;
 use image::fields::RECORD;
 use image::stored::IMAGE;
+use kernel::edition::is_edition;
 use queue::numbering::QUEUES;
 use tid::sizes::PRIORITIES;
 use tid::sizes::SLOTS;
@@ -59,8 +60,8 @@ fn active_if_ready(count: [u8; QUEUES], active: usize) -> bool
 }
 
 // Bytes of another length than an image's are not looked at.
-pub fn check(image: &[u8]) -> Found
-    ensures { λ r. ⌜ r ≡ foundIn slotCount (now (image .entry)) ⌝ }
+pub fn check(edition: u32, image: &[u8]) -> Found
+    ensures { λ r. ⌜ r ≡ foundIn slotCount edition (now (image .entry)) ⌝ }
 {
     if image.len() != IMAGE {
         return Found {
@@ -74,9 +75,10 @@ pub fn check(image: &[u8]) -> Found
     let used = seen.used;
     let active = seen.active;
     let count = seen.count;
-    let good = (1 <= used)
+    let good = is_edition(edition)
+        & (1 <= used)
         & rest_blank(image, used)
-        & all_judged(image, used, active, count)
+        & all_judged(edition, image, used, active, count)
         & active_if_ready(count, active);
     Found {
         good,

@@ -21,9 +21,9 @@ use task::parts::SEND_BLOCKED;
 use tid::sizes::SLOTS;
 
 // A record that is sound, the active slot if it is active, and without a queued sender if it is send-blocked or has exited.
-fn judged(image: &[u8], s: usize, used: usize, active: usize, senders: u8) -> bool
+fn judged(edition: u32, image: &[u8], s: usize, used: usize, active: usize, senders: u8) -> bool
     requires { ⌜ (s < slotCount) × (length (now image) ≡ slotCount * recordLength) ⌝ }
-    ensures { λ r. ⌜ r ≡ judgedAt (now (image .entry)) used active senders s ⌝ }
+    ensures { λ r. ⌜ r ≡ judgedAt edition (now (image .entry)) used active senders s ⌝ }
 {
     let at = s * RECORD;
     let code = image[at + STATE];
@@ -37,21 +37,27 @@ fn judged(image: &[u8], s: usize, used: usize, active: usize, senders: u8) -> bo
             return false;
         }
     }
-    sound(&image[at..at + RECORD], s, used)
+    sound(edition, &image[at..at + RECORD], s, used)
 }
 
 // Each queue has as many places in a row as it has members, given out when its first member is met: a place that is below their number
 // and taken once has no gap before it.
-pub(crate) fn all_judged(image: &[u8], used: usize, active: usize, count: [u8; QUEUES]) -> bool
+pub(crate) fn all_judged(
+    edition: u32,
+    image: &[u8],
+    used: usize,
+    active: usize,
+    count: [u8; QUEUES],
+) -> bool
     requires { ⌜ (used ≤ slotCount) × ((length (now image) ≡ slotCount * recordLength) × (count ≡ countUpTo slotCount (now image) used)) ⌝ }
-    ensures { λ r. ⌜ r ≡ allBelow used (slotAsked slotCount (now (image .entry)) used active count) ⌝ }
+    ensures { λ r. ⌜ r ≡ allBelow used (slotAsked slotCount edition (now (image .entry)) used active count) ⌝ }
 {
     let mut base = [0u8; QUEUES];
     let mut taken = [0u8; SLOTS];
     let mut given = 0u8;
     let mut s = 0;
     while s < used {
-        if !judged(image, s, used, active, count[FIRST_SEND + s]) {
+        if !judged(edition, image, s, used, active, count[FIRST_SEND + s]) {
             return false;
         }
         let k = queue_at(image, s);

@@ -5,7 +5,7 @@ ghost use lib.ListN.{length};
 ghost use Rattle.tid.specs.Sizes.{slotCount};
 ghost use Rattle.image.specs.Bytes.{numberIn};
 ghost use Rattle.image.specs.Record.{recordLength};
-ghost use Rattle.audit.specs.Sound.{blankWord, fitsArea, resultSound, noResult, noBuffers, targetSound, unplacedSound, fieldsSound, recordSound};
+ghost use Rattle.audit.specs.Sound.{blankWord, fitsArea, resultSound, noResult, noBuffers, targetSound, waiterSound, unplacedSound, fieldsSound, recordSound};
 use image::fields::AWAITED;
 use image::fields::CUT;
 use image::fields::FAULT;
@@ -23,6 +23,7 @@ use image::fields::VALUE;
 use image::fields::WORD;
 use image::words::short;
 use image::words::word;
+use kernel::edition::may_join;
 use queue::wide;
 use rules::slots::good_parent;
 use task::parts::ACTIVE;
@@ -99,17 +100,21 @@ fn good_target(target: usize, s: usize, used: usize) -> bool
     (1 <= target) & (target <= used) & (target != s + 1)
 }
 
-// What a state but ready and receive-blocked holds: it stands in no queue, or alone in one.
+// What a task that waits for an event holds. Its place is the number of those who came before it, whom it joined.
+fn good_waiter(edition: u32, r: &[u8]) -> bool
+    requires { ⌜ length (now r) ≡ recordLength ⌝ }
+    ensures { λ x. ⌜ x ≡ waiterSound edition (now (r .entry)) ⌝ }
+{
+    (wide(r[AWAITED]) < EVENTS) & no_buffers(r) & may_join(edition, r[PLACE])
+}
+
+// What a state holds in which a task stands in no queue.
 fn good_unplaced(r: &[u8]) -> bool
     requires { ⌜ length (now r) ≡ recordLength ⌝ }
     ensures { λ x. ⌜ x ≡ unplacedSound (now (r .entry)) ⌝ }
 {
     let code = r[STATE];
-    let awaited = r[AWAITED];
-    if code == EVENT_BLOCKED {
-        return (wide(awaited) < EVENTS) & no_buffers(r);
-    }
-    if awaited != 0 {
+    if (r[PLACE] != 0) | (r[AWAITED] != 0) {
         return false;
     }
     if code == SEND_BLOCKED {
@@ -121,9 +126,9 @@ fn good_unplaced(r: &[u8]) -> bool
     ((code == ACTIVE) | (code == EXITED)) & no_buffers(r)
 }
 
-fn good_fields(r: &[u8], s: usize, used: usize) -> bool
+fn good_fields(edition: u32, r: &[u8], s: usize, used: usize) -> bool
     requires { ⌜ (s < slotCount) × (length (now r) ≡ recordLength) ⌝ }
-    ensures { λ x. ⌜ x ≡ fieldsSound used s (now (r .entry)) ⌝ }
+    ensures { λ x. ⌜ x ≡ fieldsSound edition used s (now (r .entry)) ⌝ }
 {
     let code = r[STATE];
     if code == READY {
@@ -135,15 +140,15 @@ fn good_fields(r: &[u8], s: usize, used: usize) -> bool
     if code == RECEIVE_BLOCKED {
         return good_target(wide(r[AWAITED]), s, used) & fits_area(r, MESSAGE) & fits_area(r, REPLY);
     }
-    if r[PLACE] != 0 {
-        return false;
+    if code == EVENT_BLOCKED {
+        return good_waiter(edition, r);
     }
     good_unplaced(r)
 }
 
-pub(crate) fn sound(r: &[u8], s: usize, used: usize) -> bool
+pub(crate) fn sound(edition: u32, r: &[u8], s: usize, used: usize) -> bool
     requires { ⌜ (s < slotCount) × (length (now r) ≡ recordLength) ⌝ }
-    ensures { λ x. ⌜ x ≡ recordSound used s (now (r .entry)) ⌝ }
+    ensures { λ x. ⌜ x ≡ recordSound edition used s (now (r .entry)) ⌝ }
 {
     if PRIORITIES <= wide(r[PRIORITY]) {
         return false;
@@ -151,5 +156,5 @@ pub(crate) fn sound(r: &[u8], s: usize, used: usize) -> bool
     if !good_parent(r[PARENT], s) {
         return false;
     }
-    good_fields(r, s, used)
+    good_fields(edition, r, s, used)
 }

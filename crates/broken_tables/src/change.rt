@@ -4,6 +4,7 @@ use crate::put::bare;
 use crate::put::last_place;
 use crate::put::row;
 use crate::put::task_of;
+use crate::put::with_edition;
 use crate::put::with_queue;
 use crate::put::with_task;
 use crate::text::NUMBERS;
@@ -95,6 +96,7 @@ pub(crate) fn changed(table: Table, what: u8, n: [u32; NUMBERS]) -> Table {
         b'W' => with_queue(table, event_queue(first), row_of(n)),
         b'S' => with_queue(table, send_queue(first), row_of(n)),
         b'L' => with_queue(table, n[0] as usize, last_place(narrow(n[1]))),
+        b'D' => with_edition(table, n[0]),
         b'N' => rules::unused_table(),
         b'!' => asked(table, n),
         _ => {

@@ -1,4 +1,4 @@
-// Breaks each rule of a table by itself, in an otherwise good and busy table, and writes whether a step refuses the table.
+// Breaks each rule of a table by itself, in an otherwise good and busy table, and writes whether a step refuses the table in each edition.
 // The cases are lines of standard input, which says what they are. They are no code: a byte string costs the prover as much as four
 // calls. Fields that a state does not use, and numbers that no case of a type has, stand in stored records only, and are broken there.
 mod busy;
@@ -12,6 +12,7 @@ use crate::change::changed;
 use crate::tally::Tally;
 use crate::text::line_end;
 use crate::text::numbers;
+use kernel::edition::ONE_WAITS;
 use libc::STDIN_FILENO;
 
 // The first task's priority and its entry number.
@@ -19,11 +20,19 @@ const FIRST: u32 = 16;
 
 const FIRST_ENTRY: u32 = 0;
 
-// A line that begins with - or + ends a case, whose table is to be refused or accepted; one with = makes the table the one that each
-// case starts from; any other changes the table.
+// Whether a line ends a case, by its first byte.
+fn is_case(what: u8) -> bool {
+    match what {
+        b'-' | b'+' | b'2' | b'0' => true,
+        _ => false,
+    }
+}
+
+// A line that ends a case has its table asked; one that begins with = makes the table the one that each case starts from; any other changes
+// the table.
 fn run(text: &[u8]) -> Tally {
     let mut tally = Tally::none();
-    let started = rules::start(FIRST, FIRST_ENTRY);
+    let started = rules::start(ONE_WAITS, FIRST, FIRST_ENTRY);
     let mut whole = started.table;
     let mut table = whole;
     let mut at = 0;
@@ -33,8 +42,8 @@ fn run(text: &[u8]) -> Tally {
         if what == b'=' {
             write_states(table);
             whole = table;
-        } else if what == b'-' || what == b'+' {
-            tally = tally.found(&text[at..end], what == b'+', table);
+        } else if is_case(what) {
+            tally = tally.found(what, &text[at..end], table);
             table = whole;
         } else {
             table = changed(table, what, numbers(&text[at..end]));

@@ -60,3 +60,8 @@ pub(crate) fn with_queue(mut table: Table, k: usize, row: Queue) -> Table {
     }
     table
 }
+
+pub(crate) fn with_edition(mut table: Table, edition: u32) -> Table {
+    table.edition = edition;
+    table
+}

@@ -41,7 +41,7 @@ step-fits : {n : ℕ} → n < firstNegative → (t : Table) (r : Request) (len :
 unfolding ownWrite
 step-fits {n} small t r len good =
     let P : Decision → Type 0 = λ d. Fits (d .answer) in
-    step-is t r len P (λ e. absurd (omega arith)) (λ _ e. absurd (omega arith))
+    step-is t r len P (λ e. absurd (omega arith)) (λ e. absurd (omega arith)) (λ _ e. absurd (omega arith))
     (λ _. decide-is t r P (λ _ e. absurd (omega arith)) (λ _ _ e. absurd (omega arith))
     (λ enters e.
     let told = entry-tells good r enters (λ s o. resultKind o ≡ 1 → s < n) (λ s e. absurd (omega arith))

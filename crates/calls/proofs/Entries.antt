@@ -1,34 +1,27 @@
 -- Entry numbers by the bytes of the image, from what a step leaves of them and what bytes tell of a table.
-use Prim.Native.Nat.{ℕ, _*_, _≤_}
+use Prim.Native.Nat.{ℕ}
 use mathlib.Core.Path.{_≡_, refl, sym, ap, ap₂, _∙_}
-use mathlib.Core.Bool.{true, not}
 use mathlib.Core.List.{List, [], _∷_, map, Forall₂, Forall₂·nil, Forall₂·cons}
 use native.Mathlib.Omega.{arith}
 use lib.ListN.{length, length-map, List·getD-map}
-use lib.Dec.{eqb, ltb}
-use borrow.Author.Tests.{ltb-true, ltb-false}
 use Rattle.queue.proofs.Below.{by-test}
 use Rattle.tid.specs.Sizes.{slotCount}
 use Rattle.task.specs.declared.task.Task.{Task}
 use Rattle.task.specs.Task.{noTask, isUsed}
 use Rattle.task.specs.Standing.{queueOf}
-use Rattle.task.proofs.Tests.{chosen, clash, zero-test}
+use Rattle.task.proofs.Tests.{zero-test}
 use Rattle.kernel.specs.declared.table.Table.{Table}
 use Rattle.kernel.specs.declared.table.Request.{Request}
 use Rattle.kernel.specs.declared.table.Decision.{Decision}
-use Rattle.kernel.specs.Numbers.{accepted}
 use Rattle.kernel.specs.Table.{slots, taskAt}
 use Rattle.rules.specs.Facts.{Good}
-use Rattle.rules.specs.Fresh.{unusedTable}
 use Rattle.rules.proofs.Good.{facts-good, good-shaped}
-use Rattle.rules.proofs.Fresh.{fresh-good, unused-broken}
 use Rattle.step.specs.Step.{step, after}
 use Rattle.step.specs.Run.{run}
-use Rattle.step.proofs.Steps.{step-is}
 use Rattle.image.specs.Record.{recordLength, atEntry, storedPlace, taskRecord}
 use Rattle.image.specs.Form.{fitted, reformed}
-use Rattle.image.specs.Image.{imageOf, tableOf, isImage, readNewest}
-use Rattle.image.specs.Call.{requestLength, requestFrom, answerLength}
+use Rattle.image.specs.Image.{imageOf, tableOf}
+use Rattle.image.specs.Call.{requestFrom}
 use Rattle.image.proofs.Fitted.{in-order-same}
 use Rattle.image.proofs.Exact.{record-found}
 use Rattle.image.proofs.Laws.{write-back}
@@ -36,53 +29,26 @@ use Rattle.records.proofs.Images.{image-records, read-records}
 use Rattle.records.proofs.Tasks.{code-told, entry-told}
 use Rattle.laws.specs.Entries.{bareTask, bareTable, bareRequest}
 use Rattle.laws.proofs.Steps.{step-sound}
+use Rattle.laws.proofs.Waits.{step-keeps}
 use Rattle.laws.proofs.Entries.{entriesStay}
 use Rattle.laws.proofs.Bare.{entriesDecideNothing}
-use Rattle.entry.specs.Entry.{Call, called, due}
-use Rattle.entry.proofs.Starts.{start-fresh}
 use Rattle.calls.specs.Calls.{Lent, calls, isTaken}
 use Rattle.calls.specs.Laws.{HostFindsEntries, SameButEntry, seenBare, HostsAlikeButEntries}
-use Rattle.calls.proofs.Calls.{same-taken, other-call, taken-call}
+use Rattle.calls.proofs.Calls.{same-taken, known-edition, other-call, taken-call}
+use Rattle.calls.proofs.Starts.{good-start}
+use Rattle.calls.proofs.Accepted.{accepted-call}
 
 -- WHICH TASK HAS WHICH
 
--- An accepted call was lent an image, and leaves the image of the step of its table.
-module _ (n : ℕ) (image areas request : List ℕ) where
-  -- the step of the table that the image gives
-  abbrev left : Decision
-  left = step (tableOf n image) (requestFrom request) (length areas)
-
-  due-accepted : due n image areas request .answer .verdict ≤ accepted
-      → (isImage n image ≡ true) × (due n image areas request .table ≡ left .table)
-  unfolding due readNewest
-  due-accepted =
-      let P : Decision → Type 0 = λ d. d .answer .verdict ≤ accepted → (isImage n image ≡ true) × (d .table ≡ left .table) in
-      let never : step (unusedTable n) (requestFrom request) (length areas) .answer .verdict ≤ accepted → ⊥ =
-      step-is (unusedTable n) (requestFrom request) (length areas) (λ d. d .answer .verdict ≤ accepted → ⊥)
-      (λ e. absurd (omega arith)) (λ _ e. absurd (omega arith)) (λ good. clash good (unused-broken n)) in
-      chosen P (not (eqb (length request) requestLength)) (λ _ e. absurd (omega arith))
-      (λ _. chosen P (not (eqb (length image) (n * recordLength))) (λ _ e. absurd (omega arith))
-      (λ sized. by-test (isImage n image) (λ is. rw (sized, is) (λ _. (refl, refl))) (λ no. rw (sized, no) (λ e. absurd (never e)))))
-
-  accepted-call : (answer : List ℕ) → let c = called n image areas request answer in
-      c .verdict ≡ accepted → (isImage n image ≡ true) × (c .image ≡ imageOf (left .table))
-  unfolding called
-  accepted-call answer =
-      let v = due n image areas request .answer .verdict in
-      let P : Call → Type 0 = λ c. c .verdict ≡ accepted → (isImage n image ≡ true) × (c .image ≡ imageOf (left .table)) in
-      chosen P (not (eqb (length answer) answerLength)) (λ _ e. absurd (omega arith))
-      (λ _. chosen P (ltb accepted v) (λ some e. absurd (omega (arith, ltb-true accepted v some)))
-      (λ none _. let (is, same) = due-accepted (omega (arith, ltb-false accepted v none)) in (is, ap imageOf same)))
-
 pub hostFindsEntries : HostFindsEntries
-hostFindsEntries image areas request answer s below e =
-    let (is, after) = accepted-call slotCount image areas request answer e in
-    let t = tableOf slotCount image in
+hostFindsEntries ed image areas request answer s below e =
+    let (is, _, after) = accepted-call slotCount ed image areas request answer e in
+    let t = tableOf slotCount ed image in
     let r = requestFrom request in
     let t′ = step t r (length areas) .table in
-    let good = write-back slotCount is .0 in
+    let good = write-back slotCount ed is .0 in
     let good′ = step-sound (omega arith) t r (length areas) good .good in
-    let records = read-records slotCount image is in
+    let records = read-records slotCount ed image is in
     let records′ = image-records slotCount t′ (good′ .rules .size) in
     let keeps = entriesStay slotCount t r (length areas) s (omega arith) (good-shaped good) in
     rw (
@@ -156,30 +122,26 @@ seen-alike : (verdict : ℕ) (areas answer : List ℕ) {image image′ : List �
     → _≡_ {A = ℕ × List ℕ × List ℕ × List ℕ} (verdict, image, areas, answer) (verdict, image′, areas, answer)
 seen-alike verdict areas answer e = ap (λ image. (verdict, image, areas, answer)) e
 
-same-seen : {ls ls′ : List Lent} → Forall₂ SameButEntry ls ls′ → {t t′ : Table} → AlikeTables t t′ → (areas : List ℕ)
-    → map seenBare (calls slotCount (imageOf t) areas ls) ≡ map seenBare (calls slotCount (imageOf t′) areas ls′)
+same-seen : (ed : ℕ) {ls ls′ : List Lent} → Forall₂ SameButEntry ls ls′ → {t t′ : Table} → AlikeTables t t′ → t .edition ≡ ed → (areas : List ℕ)
+    → map seenBare (calls slotCount ed (imageOf t) areas ls) ≡ map seenBare (calls slotCount ed (imageOf t′) areas ls′)
 unfolding calls
-same-seen Forall₂·nil a areas = refl
-same-seen (Forall₂·cons {a = l} {b = l′} h hs) {t} {t′} a areas =
+same-seen ed Forall₂·nil a own areas = refl
+same-seen ed (Forall₂·cons {a = l} {b = l′} h hs) {t} {t′} a own areas =
     let both = same-taken l l′ (h .sized) (h .room) in
+    let own′ : t′ .edition ≡ ed = sym (ap (λ (x : Table). x .edition) (a .same)) ∙ own in
+    let known = known-edition (a .good) own in
     by-test (isTaken l)
     (λ taken.
     let s = step-alike a (requestFrom (l .request)) (requestFrom (l′ .request)) (h .asked) areas in
-    rw (taken-call (a .good) areas l taken, taken-call (a .good′) areas l′ (both ∙ taken), s .answer, ← s .areas)
-    (ap₂ _∷_ (seen-alike _ _ _ (same-image (s .tables))) (same-seen hs (s .tables) (after (step t (requestFrom (l .request)) (length areas) .effect) areas))))
+    rw (taken-call (a .good) own areas l taken, taken-call (a .good′) own′ areas l′ (both ∙ taken), s .answer, ← s .areas)
+    (ap₂ _∷_ (seen-alike _ _ _ (same-image (s .tables))) (same-seen ed hs (s .tables) (step-keeps t (requestFrom (l .request)) (length areas) ∙ own)
+    (after (step t (requestFrom (l .request)) (length areas) .effect) areas))))
     (λ other.
-    rw (other-call slotCount (imageOf t) areas l other, other-call slotCount (imageOf t′) areas l′ (both ∙ other), h .room)
-    (ap₂ _∷_ (seen-alike _ _ _ (same-image a)) (same-seen hs a areas)))
+    rw (other-call slotCount ed known (imageOf t) areas l other, other-call slotCount ed known (imageOf t′) areas l′ (both ∙ other), h .room)
+    (ap₂ _∷_ (seen-alike _ _ _ (same-image a)) (same-seen ed hs a own areas)))
 
 pub hostsAlikeButEntries : HostsAlikeButEntries
-hostsAlikeButEntries priority entry entry′ bytes bytes′ areas ls ls′ started started′ same =
-    let (low, made) = start-fresh slotCount priority entry bytes started in
-    let made′ = start-fresh slotCount priority entry′ bytes′ started′ .1 in
-    rw (made, made′)
-    (same-seen same
-    (record {
-      good = fresh-good slotCount priority entry (omega arith) low;
-      good′ = fresh-good slotCount priority entry′ (omega arith) low;
-      same = refl;
-    })
-    areas)
+hostsAlikeButEntries k entry′ bytes bytes′ areas ls ls′ started started′ same =
+    let (good, made) = good-start k bytes started in
+    let (good′, made′) = good-start _ bytes′ started′ in
+    rw (made, made′) (same-seen (k .edition) same (record { good = good; good′ = good′; same = refl }) refl areas)

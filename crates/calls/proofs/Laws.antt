@@ -5,9 +5,9 @@ use mathlib.Core.List.{List, [], _∷_, map, map-map, Forall₂, Forall₂·nil,
 use native.Mathlib.Omega.{arith}
 use lib.ListN.{length}
 use Rattle.tid.specs.Sizes.{slotCount}
-use Rattle.rules.specs.Fresh.{fresh}
+use Rattle.kernel.specs.Edition.{isEdition}
 use Rattle.queue.specs.Choose.{choose}
-use Rattle.rules.proofs.Fresh.{fresh-good}
+use Rattle.queue.proofs.Below.{by-test}
 use Rattle.step.specs.Run.{lastOf}
 use Rattle.image.specs.Call.{answerLength}
 use Rattle.lines.specs.Line.{lineOf}
@@ -17,54 +17,56 @@ use Rattle.laws.proofs.SameRuns.{same-joined}
 use Rattle.laws.proofs.Laws.{bytesDecideNothing, bytesHaveOrigins}
 use Rattle.entry.specs.Entry.{Call}
 use Rattle.entry.specs.Laws.{Tells}
-use Rattle.entry.proofs.Starts.{start-fresh}
 use Rattle.entry.proofs.Laws.{answerTells}
 use Rattle.calls.specs.Calls.{Lent, calls, requestsOf, asCall}
-use Rattle.calls.specs.Laws.{runFrom, CallsAreRun, OthersChangeNothing, EachAnswerTells, HostIsToldOfCuts, HostsAlike, HostBytesHaveOrigins, LinesAlike}
-use Rattle.calls.proofs.Calls.{other-call, calls-run, last-taken}
+use Rattle.calls.specs.Laws.{freshOf, runFrom, CallsAreRun, OthersChangeNothing, EachAnswerTells, HostIsToldOfCuts, HostsAlike, HostBytesHaveOrigins, LinesAlike}
+use Rattle.calls.proofs.Calls.{other-call, unknown-call, calls-run, last-taken}
+use Rattle.calls.proofs.Starts.{good-start}
 use Rattle.calls.proofs.Alike.{same-requests, same-seen}
 use Rattle.calls.proofs.Cuts.{run-cuts}
 
 pub callsAreRun : CallsAreRun
-callsAreRun priority entry bytes areas ls started =
-    let (low, made) = start-fresh slotCount priority entry bytes started in
-    rw made (calls-run (omega arith) ls (fresh-good slotCount priority entry (omega arith) low) areas)
+callsAreRun k bytes areas ls started =
+    let (good, made) = good-start k bytes started in
+    rw made (calls-run (omega arith) ls good refl areas)
 
 pub othersChangeNothing : OthersChangeNothing
-othersChangeNothing image areas l other = rw (other-call slotCount image areas l other) (refl, refl)
+othersChangeNothing ed image areas l other =
+    by-test (isEdition ed) (λ known. rw (other-call slotCount ed known image areas l other) (refl, refl))
+    (λ unknown. unknown-call slotCount ed unknown image areas (l .request) (l .answer))
 
 -- of calls on any bytes
-each-tells : (ls : List Lent) (image areas : List ℕ)
-    → Forall₂ (λ l c. length (l .answer) ≡ answerLength → Tells c) ls (calls slotCount image areas ls)
+each-tells : (ed : ℕ) (ls : List Lent) (image areas : List ℕ)
+    → Forall₂ (λ l c. length (l .answer) ≡ answerLength → Tells c) ls (calls slotCount ed image areas ls)
 unfolding calls
-each-tells [] image areas = Forall₂·nil
-each-tells (l ∷ ls) image areas = Forall₂·cons (answerTells image areas (l .request) (l .answer)) (each-tells ls _ _)
+each-tells ed [] image areas = Forall₂·nil
+each-tells ed (l ∷ ls) image areas = Forall₂·cons (answerTells ed image areas (l .request) (l .answer)) (each-tells ed ls _ _)
 
 pub eachAnswerTells : EachAnswerTells
-eachAnswerTells priority entry bytes areas ls = each-tells ls _ areas
+eachAnswerTells k bytes areas ls = each-tells (k .edition) ls _ areas
 
 pub hostIsToldOfCuts : HostIsToldOfCuts
-hostIsToldOfCuts priority entry bytes areas ls started size =
-    let (low, _) = start-fresh slotCount priority entry bytes started in
+hostIsToldOfCuts k bytes areas ls started size =
+    let (good, _) = good-start k bytes started in
     let answerOf : Call → List ℕ = λ c. c .answer in
-    rw (callsAreRun priority entry bytes areas ls started, map-map answerOf asCall (runFrom priority entry areas ls))
-    (run-cuts (omega arith) (fresh-good slotCount priority entry (omega arith) low) areas (requestsOf ls) size)
+    rw (callsAreRun k bytes areas ls started, map-map answerOf asCall (runFrom k areas ls))
+    (run-cuts (omega arith) good areas (requestsOf ls) size)
 
 pub hostsAlike : HostsAlike
-hostsAlike priority entry bytes bytes′ areas areas′ ls ls′ started started′ size same =
-    let (low, made) = start-fresh slotCount priority entry bytes started in
-    let made′ = start-fresh slotCount priority entry bytes′ started′ .1 in (
-      rw (made, made′) (same-seen (omega arith) same refl (fresh-good slotCount priority entry (omega arith) low) areas areas′ size),
-      bytesDecideNothing (fresh slotCount priority entry) areas areas′ (requestsOf ls) (requestsOf ls′) size (same-requests same) .sameMovements,
+hostsAlike k bytes bytes′ areas areas′ ls ls′ started started′ size same =
+    let (good, made) = good-start k bytes started in
+    let made′ = good-start k bytes′ started′ .1 in (
+      rw (made, made′) (same-seen (omega arith) same refl good refl areas areas′ size),
+      bytesDecideNothing (freshOf k) areas areas′ (requestsOf ls) (requestsOf ls′) size (same-requests same) .sameMovements,
     )
 
 pub hostBytesHaveOrigins : HostBytesHaveOrigins
-hostBytesHaveOrigins priority entry bytes areas ls started =
-    let u = runFrom priority entry areas ls in
+hostBytesHaveOrigins k bytes areas ls started =
+    let u = runFrom k areas ls in
     let areasOf : Call → List ℕ = λ c. c .areas in
-    bytesHaveOrigins (fresh slotCount priority entry) areas (requestsOf ls)
-    ∙ sym (ap (λ cs. lastOf areas (map areasOf cs)) (callsAreRun priority entry bytes areas ls started) ∙ ap (lastOf areas) (map-map areasOf asCall u))
-    ∙ last-taken slotCount ls _ areas
+    bytesHaveOrigins (freshOf k) areas (requestsOf ls)
+    ∙ sym (ap (λ cs. lastOf areas (map areasOf cs)) (callsAreRun k bytes areas ls started) ∙ ap (lastOf areas) (map-map areasOf asCall u))
+    ∙ last-taken slotCount (k .edition) (good-start k bytes started .0 .edition) ls _ areas
 
 pub linesAlike : LinesAlike
 unfolding linesFrom wideLineOf effectText

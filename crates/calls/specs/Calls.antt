@@ -16,12 +16,12 @@ pub record Lent : Type 0 where
   pub request : List ℕ
   pub answer : List ℕ
 
--- each call on the image and the areas that the call before it left
-unfoldable pub calls : ℕ → List ℕ → List ℕ → List Lent → List Call
-calls n image areas [] = []
-calls n image areas (l ∷ ls) =
-    let c = called n image areas (l .request) (l .answer) in
-    c ∷ calls n (c .image) (c .areas) ls
+-- each call on the image and the areas that the call before it left, all in one edition
+unfoldable pub calls : ℕ → ℕ → List ℕ → List ℕ → List Lent → List Call
+calls n ed image areas [] = []
+calls n ed image areas (l ∷ ls) =
+    let c = called n ed image areas (l .request) (l .answer) in
+    c ∷ calls n ed (c .image) (c .areas) ls
 
 -- whether a call is taken: its two lengths are right, so that it comes to a step
 abbrev pub isTaken : Lent → Bool

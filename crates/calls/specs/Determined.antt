@@ -17,12 +17,12 @@ Three = List ℕ × List ℕ × List ℕ
 -- `kernel_step`: seen are the image, the areas and the answer at exit; the request is only read
 abbrev pub KernelStepDetermined : Type 0
 KernelStepDetermined =
-    (κs : _) (a : _) → Determines {E = Three} (kernel-step.Post κs a) (λ s. (now (s .0), now (s .1 .0), now (s .1 .1 .1 .0)))
+    (κs : _) (a : _) → Determines {E = Three} (kernel-step.Post κs a) (λ s. (now (s .1 .0), now (s .1 .1 .0), now (s .1 .1 .1 .1 .0)))
 
 -- `kernel_start`: seen is the image at exit
 abbrev pub KernelStartDetermined : Type 0
-KernelStartDetermined = (κs : _) (a : _) → Determines (kernel-start.Post κs a) (λ s. now (s .1 .1 .0))
+KernelStartDetermined = (κs : _) (a : _) → Determines (kernel-start.Post κs a) (λ s. now (s .1 .1 .1 .0))
 
 -- `kernel_convert`: seen is `out` at exit; the image is only read
 abbrev pub KernelConvertDetermined : Type 0
-KernelConvertDetermined = (κs : _) (a : _) → Determines (kernel-convert.Post κs a) (λ s. now (s .1 .0))
+KernelConvertDetermined = (κs : _) (a : _) → Determines (kernel-convert.Post κs a) (λ s. now (s .1 .1 .0))

@@ -7,6 +7,7 @@ use Rattle.queue.specs.Choose.{allBelow, firstFrom}
 use Rattle.queue.specs.Row.{pushedRow, poppedRow}
 use Rattle.queue.specs.Rows.{rowStands, rowsKept}
 use Rattle.task.specs.Standing.{queueOf}
+use Rattle.kernel.specs.Edition.{oneWaits}
 use Rattle.kernel.specs.Table.{activeSlot, usedSlots}
 use Rattle.kernel.specs.Moves.{firstReady, activated, dispatched}
 use Rattle.kernel.specs.Turn.{settled}
@@ -39,7 +40,7 @@ everyStep = tt
 begins : {S : Type 0} (s : S) → Begins 3 2 (made s)
 unfolding everyStep
 begins s =
-    let good = decide-sound (omega arith) (fresh-good 3 16 0 (omega arith) (omega arith)) makes .good in
+    let good = decide-sound (omega arith) (fresh-good 3 oneWaits 16 0 refl (omega arith) (omega arith)) makes .good in
     record {
       steps = record { small = omega arith; shaped = good-shaped good; good = facts-good 3 _ good; size = refl };
       least = omega arith;

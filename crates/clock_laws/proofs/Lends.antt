@@ -6,7 +6,7 @@ use mathlib.Core.Bool.{true, not, _&&_, false≢true, and-false}
 use mathlib.Core.List.{List}
 use native.Mathlib.Omega.{arith}
 use lib.ListN.{getD}
-use lib.Dec.{ltb, leb, eqb}
+use lib.Dec.{leb, eqb}
 use borrow.Author.Tests.{eqb-true}
 use Rattle.queue.specs.Numbering.{eventQueue}
 use Rattle.tid.specs.Sizes.{events}
@@ -21,6 +21,7 @@ use Rattle.kernel.specs.declared.table.Table.{Table}
 use Rattle.kernel.specs.declared.table.Request.{Request}
 use Rattle.kernel.specs.declared.table.Turn.{Turn}
 use Rattle.kernel.specs.Numbers.{myParentTidKind, sendKind, receiveKind, awaitEventKind, eventKind, ownWriteKind}
+use Rattle.kernel.specs.Edition.{mayWait}
 use Rattle.kernel.specs.Table.{taskAt, queueAt, activeSlot}
 use Rattle.kernel.specs.Kinds.{alive, myParentTid, send, awaitEvent, event}
 use Rattle.kernel.specs.Decide.{activeTid, buffer, turnOf, ownWrite}
@@ -97,7 +98,7 @@ module _ {offset : ℕ} where
   await-lends t s which =
       let Left : Turn → Type 0 = λ u. Lends offset (u .state) in
       chosen Left (leb events which) (λ _. ready-lends)
-      (λ _. chosen Left (ltb 0 (queueAt t (eventQueue which) .len)) (λ _. ready-lends)
+      (λ _. chosen Left (not (mayWait (t .edition) (queueAt t (eventQueue which) .len + 1))) (λ _. ready-lends)
       (λ _. record { used = omega arith; closed = λ e. omega arith; behind = λ i low least most. omega arith }))
 
   -- by an entry of its own

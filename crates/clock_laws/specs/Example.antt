@@ -7,6 +7,7 @@ use mathlib.Core.List.{List, [], _∷_, _++_}
 use lib.ListN.{replicate}
 use Rattle.kernel.specs.declared.table.Request.{Request}
 use Rattle.kernel.specs.Decide.{decide}
+use Rattle.kernel.specs.Edition.{oneWaits}
 use Rattle.rules.specs.Fresh.{fresh}
 use Rattle.server.specs.Service.{Machine}
 use Rattle.served.specs.World.{World, bytesIn, asksNow, ended, Obeys}
@@ -29,7 +30,7 @@ makes = ask 1 8 0 0 0 0
 
 -- a kernel of three slots, once tid 2 was made; no byte is 0 but the first sixteen of tid 1
 unfoldable pub made : {S : Type 0} → S → World S
-made s = record { table = decide (fresh 3 16 0) makes .table; areas = replicate 16 0 ++ replicate 752 9; state = s }
+made s = record { table = decide (fresh 3 oneWaits 16 0) makes .table; areas = replicate 16 0 ++ replicate 752 9; state = s }
 
 abbrev pub clock : World Server
 clock = made (newServer 20)

@@ -1,11 +1,13 @@
 // Reads conversions of the byte entry from standard input, and writes what the entry did.
 //
-// A conversion is two chunks, the image and the bytes that it is written into. For each the verdict is written as four bytes, and
-// then both chunks as the call left them.
+// A conversion is a word, the edition, and two chunks, the image and the bytes that it is written into. For each the verdict is written as a
+// word, and then both chunks as the call left them.
 use chunks::ENDED;
+use chunks::LARGEST;
 use chunks::MOST;
 use chunks::complain;
 use chunks::read_chunk;
+use chunks::read_word;
 use chunks::write_chunk;
 use chunks::write_word;
 use entry::kernel_convert;
@@ -17,19 +19,23 @@ fn refuse(n: usize) -> bool {
 }
 
 // Calls the entry on a conversion, and writes what it did. Answers whether all was written.
-fn call(image: &[u8], out: &mut [u8]) -> bool {
-    let verdict = kernel_convert(image, &mut *out);
+fn call(edition: u32, image: &[u8], out: &mut [u8]) -> bool {
+    let verdict = kernel_convert(edition, image, &mut *out);
     write_word(verdict as usize) && write_chunk(image) && write_chunk(&*out)
 }
 
 // One conversion. Answers whether to go on.
 fn run_case() -> bool {
+    let edition = read_word();
+    if edition == ENDED {
+        return false;
+    }
+    if LARGEST < edition {
+        return refuse(edition);
+    }
     let mut image = [0u8; MOST];
     let mut out = [0u8; MOST];
     let a = read_chunk(&mut image);
-    if a == ENDED {
-        return false;
-    }
     if MOST < a {
         return refuse(a);
     }
@@ -37,7 +43,7 @@ fn run_case() -> bool {
     if MOST < b {
         return refuse(b);
     }
-    call(&image[..a], &mut out[..b])
+    call(edition as u32, &image[..a], &mut out[..b])
 }
 
 // A proved loop has to end, and nothing says that the input does.

@@ -51,19 +51,19 @@ fn replaced(image: [u8; IMAGE], at: usize, byte: u8) -> [u8; IMAGE] {
     damaged
 }
 
-// Whether it is refused by 2.
-pub(crate) fn breaks(image: [u8; IMAGE], at: usize, byte: u8) -> bool {
+// Whether it is refused by 2 in an edition.
+pub(crate) fn breaks(edition: u32, image: [u8; IMAGE], at: usize, byte: u8) -> bool {
     let damaged = replaced(image, at, byte);
-    let reading = read(&damaged);
+    let reading = read(edition, &damaged);
     reading.verdict == BAD_TABLE
 }
 
 // How many values a byte can have with the image accepted.
-pub(crate) fn good_values(image: [u8; IMAGE], at: usize) -> u64 {
+pub(crate) fn good_values(edition: u32, image: [u8; IMAGE], at: usize) -> u64 {
     let mut good = 0u64;
     let mut value = 0u64;
     while value < 256 {
-        if !breaks(image, at, value as u8) {
+        if !breaks(edition, image, at, value as u8) {
             good = wrapping_add_u64(good, 1);
         }
         value += 1;

@@ -25,19 +25,19 @@ fn place_of(tid: u8, at: u8) -> usize {
 }
 
 // Whether the byte that a record cannot hold at a place is refused there.
-fn is_broken(image: [u8; IMAGE], tid: u8, at: u8) -> bool {
+fn is_broken(edition: u32, image: [u8; IMAGE], tid: u8, at: u8) -> bool {
     let place = place_of(tid, at);
     let state = byte_at(image, place_of(tid, 0));
     let old = byte_at(image, place);
-    breaks(image, place, wrong(tid, state, at, old))
+    breaks(edition, image, place, wrong(tid, state, at, old))
 }
 
 // How many places of a record are refused.
-fn broken_places(image: [u8; IMAGE], tid: u8) -> u64 {
+fn broken_places(edition: u32, image: [u8; IMAGE], tid: u8) -> u64 {
     let mut broken = 0u64;
     let mut at = 0u8;
     while at < POSITIONS {
-        if is_broken(image, tid, at) {
+        if is_broken(edition, image, tid, at) {
             broken = wrapping_add_u64(broken, 1);
         }
         at += 1;
@@ -55,57 +55,67 @@ fn write_free(at: u8) {
 }
 
 // A place that is not refused, with how many of the 256 bytes are good there.
-fn write_good(image: [u8; IMAGE], tid: u8, at: u8) {
-    if !is_broken(image, tid, at) {
+fn write_good(edition: u32, image: [u8; IMAGE], tid: u8, at: u8) {
+    if !is_broken(edition, image, tid, at) {
         io::write_all(STDOUT_FILENO, b"; at ");
         io::print_decimal(STDOUT_FILENO, at as u64);
         write_free(at);
-        io::print_decimal(STDOUT_FILENO, good_values(image, place_of(tid, at)));
+        io::print_decimal(
+            STDOUT_FILENO,
+            good_values(edition, image, place_of(tid, at)),
+        );
         io::write_all(STDOUT_FILENO, b" of 256 are good");
     }
 }
 
-fn write_record(image: [u8; IMAGE], tid: u8) {
+fn write_record(edition: u32, image: [u8; IMAGE], tid: u8) {
     io::write_all(STDOUT_FILENO, b"tid ");
     io::print_decimal(STDOUT_FILENO, tid as u64);
     io::write_all(STDOUT_FILENO, b" state ");
     io::print_decimal(STDOUT_FILENO, byte_at(image, place_of(tid, 0)) as u64);
     io::write_all(STDOUT_FILENO, b": ");
-    io::print_decimal(STDOUT_FILENO, broken_places(image, tid));
+    io::print_decimal(STDOUT_FILENO, broken_places(edition, image, tid));
     io::write_all(STDOUT_FILENO, b" of ");
     io::print_decimal(STDOUT_FILENO, POSITIONS as u64);
     io::write_all(STDOUT_FILENO, b" refused");
     let mut at = 0u8;
     while at < POSITIONS {
-        write_good(image, tid, at);
+        write_good(edition, image, tid, at);
         at += 1;
     }
     io::write_all(STDOUT_FILENO, b"\n");
 }
 
-pub(crate) fn write_records(image: [u8; IMAGE]) {
+// In which edition the records below are asked.
+pub(crate) fn write_heading(edition: u32) {
+    io::write_all(STDOUT_FILENO, b"in edition ");
+    io::print_decimal(STDOUT_FILENO, edition as u64);
+    io::write_all(STDOUT_FILENO, b"\n");
+}
+
+pub(crate) fn write_records(edition: u32, image: [u8; IMAGE]) {
     let mut tid = 1;
     while tid <= DAMAGED {
-        write_record(image, tid);
+        write_record(edition, image, tid);
         tid += 1;
     }
 }
 
 // How many bytes are good where a record says whether its value was cut.
-fn write_cut(image: [u8; IMAGE], tid: u8, beside: &[u8]) {
+fn write_cut(edition: u32, image: [u8; IMAGE], tid: u8, beside: &[u8]) {
     io::write_all(STDOUT_FILENO, b"at 15, beside ");
     io::write_all(STDOUT_FILENO, beside);
     io::write_all(STDOUT_FILENO, b", ");
     io::print_decimal(
         STDOUT_FILENO,
-        good_values(image, slot_named(tid) * RECORD + CUT),
+        good_values(edition, image, slot_named(tid) * RECORD + CUT),
     );
     io::write_all(STDOUT_FILENO, b" of 256 are good\n");
 }
 
 // Of three ready tasks, of which the first holds a value, the second a fault and the third nothing.
-pub(crate) fn write_cuts(image: [u8; IMAGE]) {
-    write_cut(image, 1, b"a value");
-    write_cut(image, 8, b"a fault");
-    write_cut(image, 12, b"nothing");
+pub(crate) fn write_cuts(edition: u32, image: [u8; IMAGE]) {
+    write_cut(edition, image, 1, b"a value");
+    write_cut(edition, image, 8, b"a fault");
+    write_cut(edition, image, 12, b"nothing");
 }

@@ -9,6 +9,8 @@ use image::fields::RECORD;
 use image::form::reform;
 use image::stored::IMAGE;
 use image::stored::read;
+use kernel::edition::MANY_WAIT;
+use kernel::edition::ONE_WAITS;
 use kernel::numbers::EVENT;
 use libc::STDOUT_FILENO;
 use tid::sizes::AREA;
@@ -20,23 +22,36 @@ const SEED: u32 = 2026;
 const OLD: usize = SLOTS * ENTRY;
 
 // What a step says of an image: an event that nobody awaits is refused for nothing else.
-fn step_verdict(image: &mut [u8]) -> u32 {
+fn step_verdict(edition: u32, image: &mut [u8]) -> u32 {
     let mut areas = [0u8; SLOTS * AREA];
     let mut answer = [0u8; ANSWER];
     let mut request = [0u8; REQUEST];
     request[0] = EVENT as u8;
     request[4] = 62;
-    kernel_step(&mut *image, &mut areas, &request, &mut answer)
+    kernel_step(edition, &mut *image, &mut areas, &request, &mut answer)
 }
 
-// What reading says of an image, and then what a step does.
-fn write_whole(name: &[u8], image: &mut [u8]) {
-    let reading = read(&*image);
-    io::write_all(STDOUT_FILENO, name);
-    io::write_all(STDOUT_FILENO, b": reading ");
+// What reading says of an image in an edition, and then what a step does.
+fn write_asked(words: &[u8], edition: u32, image: &mut [u8]) {
+    let reading = read(edition, &*image);
+    io::write_all(STDOUT_FILENO, words);
     io::print_decimal(STDOUT_FILENO, reading.verdict as u64);
     io::write_all(STDOUT_FILENO, b", a step ");
-    io::print_decimal(STDOUT_FILENO, step_verdict(&mut *image) as u64);
+    io::print_decimal(STDOUT_FILENO, step_verdict(edition, &mut *image) as u64);
+}
+
+// The same in both editions. What a step leaves in edition 1 is an image in edition 2 too, so one is enough for both.
+pub(crate) fn write_whole(name: &[u8], image: &mut [u8]) {
+    io::write_all(STDOUT_FILENO, name);
+    write_asked(b": reading ", ONE_WAITS, &mut *image);
+    write_asked(b"; in edition 2 reading ", MANY_WAIT, &mut *image);
+    io::write_all(STDOUT_FILENO, b"\n");
+}
+
+// The same in an edition that is none.
+fn write_edition(name: &[u8], edition: u32, image: &mut [u8]) {
+    io::write_all(STDOUT_FILENO, name);
+    write_asked(b": reading ", edition, &mut *image);
     io::write_all(STDOUT_FILENO, b"\n");
 }
 
@@ -117,4 +132,16 @@ pub(crate) fn write_wholes(image: [u8; IMAGE]) {
     write_whole(b"the unbroken image", &mut unbroken);
     write_whole(b"a sender at tid 12, which exists", &mut at_another);
     write_whole(b"a sender at tid 5, which has exited", &mut at_exited);
+}
+
+// Editions that are none, which are refused before a length and before a rule.
+pub(crate) fn write_editions(image: [u8; IMAGE]) {
+    let mut unbroken = image;
+    let mut zeros = [0u8; IMAGE];
+    let mut short = [0u8; 1];
+    write_edition(b"edition 0", 0, &mut unbroken);
+    write_edition(b"edition 3", 3, &mut unbroken);
+    write_edition(b"edition 257", 257, &mut unbroken);
+    write_edition(b"edition 3, one byte", 3, &mut short);
+    write_edition(b"edition 3, all zero", 3, &mut zeros);
 }

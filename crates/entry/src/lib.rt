@@ -28,9 +28,11 @@ use image::form::reform;
 use image::stored::IMAGE;
 use image::words::word;
 use inplace::decide;
+use kernel::edition::is_edition;
 use kernel::numbers::ACCEPTED;
 use kernel::numbers::BAD_ANSWER;
 use kernel::numbers::BAD_AREAS;
+use kernel::numbers::BAD_EDITION;
 use kernel::numbers::BAD_IMAGE;
 use kernel::numbers::BAD_PRIORITY;
 use kernel::numbers::BAD_RECORD;
@@ -59,18 +61,22 @@ fn refuse(verdict: u8, answer: &mut [u8]) -> u32
     verdict as u32
 }
 
-// One step of the kernel that an image holds.
+// One step of the kernel that an image holds, in the edition that it was started in.
 #[no_mangle]
 pub extern "C" fn kernel_step(
+    edition: u32,
     image: &mut [u8],
     areas: &mut [u8],
     request: &[u8],
     answer: &mut [u8],
 ) -> u32
-    ensures { λ r. ⌜ call r (now (image .exit)) (now (areas .exit)) (now (answer .exit)) ≡ called slotCount (now (image .entry)) (now (areas .entry)) (now (request .entry)) (now (answer .entry)) ⌝ }
+    ensures { λ r. ⌜ call r (now (image .exit)) (now (areas .exit)) (now (answer .exit)) ≡ called slotCount edition (now (image .entry)) (now (areas .entry)) (now (request .entry)) (now (answer .entry)) ⌝ }
 {
     if answer.len() != ANSWER {
         return BAD_ANSWER as u32;
+    }
+    if !is_edition(edition) {
+        return refuse(BAD_EDITION, &mut *answer);
     }
     if request.len() != REQUEST {
         return refuse(BAD_RECORD, &mut *answer);
@@ -81,7 +87,7 @@ pub extern "C" fn kernel_step(
     if areas.len() != SLOTS * AREA {
         return refuse(BAD_AREAS, &mut *answer);
     }
-    let done = decide(&mut *image, request_from(request));
+    let done = decide(edition, &mut *image, request_from(request));
     let effect = done.effect;
     let shown = done.answer;
     apply(effect, &mut *areas);
@@ -111,12 +117,15 @@ fn put_entry(image: &mut [u8], entry: u32)
     image[ENTRY + 3] = (entry / 256 / 256 / 256 % 256) as u8;
 }
 
-// A fresh kernel's image, whose first task has the priority and the entry number given. The priority is asked before the length, and
-// nothing is written before both are right.
+// A fresh kernel's image, whose first task has the priority and the entry number given. The edition is asked, then the priority, then the
+// length, and nothing is written before all are right. An image does not hold its edition.
 #[no_mangle]
-pub extern "C" fn kernel_start(priority: u32, entry: u32, image: &mut [u8]) -> u32
-    ensures { λ r. ⌜ startCall r (now (image .exit)) ≡ startCalled slotCount priority entry (now (image .entry)) ⌝ }
+pub extern "C" fn kernel_start(edition: u32, priority: u32, entry: u32, image: &mut [u8]) -> u32
+    ensures { λ r. ⌜ startCall r (now (image .exit)) ≡ startCalled slotCount edition priority entry (now (image .entry)) ⌝ }
 {
+    if !is_edition(edition) {
+        return BAD_EDITION as u32;
+    }
     if PRIORITIES <= priority as usize {
         return BAD_PRIORITY as u32;
     }
@@ -148,13 +157,16 @@ fn holds(form: Form, image: &[u8]) -> bool
     none
 }
 
-// An image of any form written in the form that has as many bytes as `out`. Both lengths are asked first, and nothing is written before
-// all is right: so the newest form, of which the rules are asked, is made beside `out`.
+// An image of any form written in the form that has as many bytes as `out`. The edition and both lengths are asked first, and nothing is
+// written before all is right: so the newest form, of which the rules are asked, is made beside `out`.
 #[no_mangle]
-pub extern "C" fn kernel_convert(image: &[u8], out: &mut [u8]) -> u32
-    ensures verdict { λ r. ⌜ r ≡ convertVerdict slotCount (now (image .entry)) (length (now (out .entry))) ⌝ }
-    ensures bytes { λ r. ⌜ now (out .exit) ≡ converted slotCount (now (image .entry)) (now (out .entry)) ⌝ }
+pub extern "C" fn kernel_convert(edition: u32, image: &[u8], out: &mut [u8]) -> u32
+    ensures verdict { λ r. ⌜ r ≡ convertVerdict slotCount edition (now (image .entry)) (length (now (out .entry))) ⌝ }
+    ensures bytes { λ r. ⌜ now (out .exit) ≡ converted slotCount edition (now (image .entry)) (now (out .entry)) ⌝ }
 {
+    if !is_edition(edition) {
+        return BAD_EDITION as u32;
+    }
     let to = form_for(out.len());
     if FORMS <= form_for(image.len()) {
         return BAD_IMAGE as u32;
@@ -164,7 +176,7 @@ pub extern "C" fn kernel_convert(image: &[u8], out: &mut [u8]) -> u32
     }
     let mut newest = [0u8; IMAGE];
     reform(image, &mut newest);
-    let found = check(&newest);
+    let found = check(edition, &newest);
     if !found.good {
         return BAD_TABLE as u32;
     }

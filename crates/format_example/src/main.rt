@@ -1,10 +1,12 @@
-// Writes the worked example of docs/FORMATS.md: bytes that go into the byte entry, and bytes that it leaves.
+// Writes the worked example of docs/FORMATS.md: bytes that go into the byte entry, and bytes that it leaves. It is in edition 1; nobody
+// waits for an event, so that in edition 2 every byte would be the same.
 use entry::kernel_start;
 use entry::kernel_step;
 use image::call::ANSWER;
 use image::call::REQUEST;
 use image::fields::RECORD;
 use image::stored::IMAGE;
+use kernel::edition::ONE_WAITS;
 use kernel::numbers::CREATE;
 use kernel::numbers::OWN_WRITE;
 use kernel::numbers::RECEIVE;
@@ -63,7 +65,7 @@ fn received(host: Host) {
 
 fn started() -> Host {
     let mut image = [0u8; IMAGE];
-    kernel_start(16, 7, &mut image);
+    kernel_start(ONE_WAITS, 16, 7, &mut image);
     Host {
         image,
         areas: [0; AREAS],
@@ -115,7 +117,7 @@ fn asked(host: Host, request: [u8; REQUEST]) -> Host {
     let mut areas = host.areas;
     let mut answer = [0u8; ANSWER];
     line(b"request", &request, 0, REQUEST);
-    kernel_step(&mut image, &mut areas, &request, &mut answer);
+    kernel_step(ONE_WAITS, &mut image, &mut areas, &request, &mut answer);
     line(b"answer ", &answer, 0, ANSWER);
     Host { image, areas }
 }

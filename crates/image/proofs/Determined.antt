@@ -22,7 +22,7 @@ read-determined κs a r r′ s s′ p p′ = (p ∙⁻¹ p′, refl)
 write-determined : (κs : _) (a : _) → Determines (write.Post κs a) (λ s. now (s .1 .0))
 write-determined κs a r r′ s s′ p p′ = (p .0 ∙⁻¹ p′ .0, p .1 ∙⁻¹ p′ .1)
 
-convert-determined : (κs : _) (a : _) → Determines (convert.Post κs a) (λ s. now (s .1 .0))
+convert-determined : (κs : _) (a : _) → Determines (convert.Post κs a) (λ s. now (s .1 .1 .0))
 convert-determined κs a r r′ s s′ p p′ = (p .0 ∙⁻¹ p′ .0, p .1 ∙⁻¹ p′ .1)
 
 form-at-determined : (κs : _) (a : _) → DeterminesResult (form-at.Post κs a)

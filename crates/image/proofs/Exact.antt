@@ -57,41 +57,35 @@ pub record-found : (t : Table) (s : ℕ) → s < slots t → recordAt recordLeng
 unfolding imageOf
 record-found t s l = recordAt-inOrder recordLength (recordOf t) (length-recordOf t) (slots t) s l
 
-module _ (n : ℕ) (bytes : List ℕ) where
-  module _ (g : Good n (tableOf n bytes)) (s : ℕ) (l : s < n) where
-    used : isUsed (taskAt (tableOf n bytes) s .state) ≡ true → UsedFacts (usedSlots (tableOf n bytes)) s (taskAt (tableOf n bytes) s)
-    used e = elim (decLt s (usedSlots (tableOf n bytes))) [
+module _ (n ed : ℕ) (bytes : List ℕ) where
+  module _ (g : Good n (tableOf n ed bytes)) (s : ℕ) (l : s < n) where
+    used : isUsed (taskAt (tableOf n ed bytes) s .state) ≡ true → UsedFacts (usedSlots (tableOf n ed bytes)) s (taskAt (tableOf n ed bytes) s)
+    used e = elim (decLt s (usedSlots (tableOf n ed bytes))) [
       | yes h ↦ g .rules .tasks .each s h
       | no h ↦ absurd (false≢true (rw (g .rules .tasks .unused s (omega arith)) at e))
     ]
 
     -- the slot's own place in its queue, by the rules
-    own : (k : ℕ) → standing n (taskAt (tableOf n bytes) s) ≡ k → k < queuesFor n
-        → let q = queueAt (tableOf n bytes) k in
-        (storedPlace (tableOf n bytes) s ≡ placeOf q (markOf s)) × (placeOf q (markOf s) < q .len) × (placeAt q (placeOf q (markOf s)) ≡ markOf s)
+    own : (k : ℕ) → standing n (taskAt (tableOf n ed bytes) s) ≡ k → k < queuesFor n
+        → let q = queueAt (tableOf n ed bytes) k in
+        (storedPlace (tableOf n ed bytes) s ≡ placeOf q (markOf s)) × (placeOf q (markOf s) < q .len) × (placeAt q (placeOf q (markOf s)) ≡ markOf s)
     own k e h =
         let lined = g .rules .lined in
-        let inside : k < length (tableOf n bytes .queues) = omega (arith, lined .shaped .count) in
+        let inside : k < length (tableOf n ed bytes .queues) = omega (arith, lined .shaped .count) in
         let at = slot-place (lined .holds .row k inside) s l (eq-eqb _ k e) in
-        (stored-in n (tableOf n bytes) s (g .rules .size) e h, at .0, at .1)
+        (stored-in n (tableOf n ed bytes) s (g .rules .size) e h, at .0, at .1)
 
-    queue-place : (k : ℕ) → standing n (taskAt (tableOf n bytes) s) ≡ k → k < queuesFor n → storedPlace (tableOf n bytes) s ≡ placeRead bytes s
+    queue-place : (k : ℕ) → standing n (taskAt (tableOf n ed bytes) s) ≡ k → k < queuesFor n → storedPlace (tableOf n ed bytes) s ≡ placeRead bytes s
     queue-place k e h =
         let (at, _, here) = own k e h in
-        at ∙ sym (place-found n bytes k _ s h here)
+        at ∙ sym (place-found n ed bytes k _ s h here)
 
-    -- a waiter stands alone, so its place is 0
-    event-place : (e : ℕ) → standing n (taskAt (tableOf n bytes) s) ≡ eventQueue e → e < events → storedPlace (tableOf n bytes) s ≡ 0
-    event-place e k h =
-        let (at, within, _) = own (eventQueue e) k (omega arith) in
-        omega (arith, at, within, g .rules .single e h)
-
-    place-read : storedPlace (tableOf n bytes) s ≡ keptPlace (recordAt recordLength bytes s)
+    place-read : storedPlace (tableOf n ed bytes) s ≡ keptPlace (recordAt recordLength bytes s)
     unfolding queueOf
     place-read =
-        let t = tableOf n bytes in
+        let t = tableOf n ed bytes in
         let x = taskAt t s in
-        let kept = ap (placeKept (recordAt recordLength bytes s)) (task-read n bytes n s (omega arith) l) in
+        let kept = ap (placeKept (recordAt recordLength bytes s)) (task-read n ed bytes n s (omega arith) l) in
         let stands : storedPlace t s ≡ placeKept (recordAt recordLength bytes s) x =
         by-test (isReady (x .state))
         (λ r.
@@ -106,56 +100,56 @@ module _ (n : ℕ) (bytes : List ℕ) where
         (λ v.
         let six = eqb-true (stateCode (x .state)) 6 v in
         let event = state-facts _ s (x .state) (used (rw six) .state) .event v in
-        rw (r, q) (event-place (awaited (x .state)) (rw six) (ltb-true (awaited (x .state)) events event)))
-        (λ v. rw (r, q) (stored-none n t s (g .rules .size) (stands-nowhere (queuesFor n) x r q v) (le-refl (queuesFor n)))))) in
+        rw six (queue-place (eventQueue (awaited (x .state))) (rw six) (omega (arith, ltb-true (awaited (x .state)) events event))))
+        (λ v. rw (r, q, v) (stored-none n t s (g .rules .size) (stands-nowhere (queuesFor n) x r q v) (le-refl (queuesFor n)))))) in
         stands ∙ kept
 
     -- so a slot is written as the record that it was read from, exactly where that is exact
     record-again : length bytes ≡ n * recordLength → Bytes bytes
-        → exactRecord (recordAt recordLength bytes s) ≡ same (recordOf (tableOf n bytes) s) (recordAt recordLength bytes s)
+        → exactRecord (recordAt recordLength bytes s) ≡ same (recordOf (tableOf n ed bytes) s) (recordAt recordLength bytes s)
     record-again whole small =
         let r = recordAt recordLength bytes s in
         let size = length-record n recordLength bytes s l whole in
-        let again = ap₂ taskRecord (task-read n bytes n s (omega arith) l) place-read in
+        let again = ap₂ taskRecord (task-read n ed bytes n s (omega arith) l) place-read in
         exact-record r size (part-small bytes small (s * recordLength) recordLength) ∙ ap (λ (x : List ℕ). same x r) (sym again)
 
 -- every record is exact, or the image is another
-pub image-exact : (n : ℕ) (bytes : List ℕ) → length bytes ≡ n * recordLength → Bytes bytes
-    → isImage n bytes ≡ (goodTable (tableOf n bytes) && exactUpTo bytes n)
+pub image-exact : (n ed : ℕ) (bytes : List ℕ) → length bytes ≡ n * recordLength → Bytes bytes
+    → isImage n ed bytes ≡ (goodTable (tableOf n ed bytes) && exactUpTo bytes n)
 unfolding isImage
-image-exact n bytes whole small =
-    let t = tableOf n bytes in
-    let count = table-shaped n bytes n .tasks in
+image-exact n ed bytes whole small =
+    let t = tableOf n ed bytes in
+    let count = table-shaped n ed bytes n .tasks in
     by-test (goodTable t)
     (λ good.
-    let g = good-facts n t (table-shaped n bytes n) good in
+    let g = good-facts n t (table-shaped n ed bytes n) good in
     rw good
     (same-test
     (λ h.
     let image = same-true (imageOf t) bytes h in
     below-all n (λ s. exactRecord (recordAt recordLength bytes s))
-    (λ s l. record-again n bytes g s l whole small
+    (λ s l. record-again n ed bytes g s l whole small
     ∙ ap (λ (x : List ℕ). same (recordOf t s) x) (ap (λ (b : List ℕ). recordAt recordLength b s) (sym image) ∙ record-found t s (omega arith))
     ∙ same-refl (recordOf t s)))
     (λ h.
     let each = all-below n (λ s. exactRecord (recordAt recordLength bytes s)) h in
-    let all = in-order-same (recordOf t) (recordAt recordLength bytes) n (λ s l. same-true _ _ (sym (record-again n bytes g s l whole small) ∙ each s l)) in
+    let all = in-order-same (recordOf t) (recordAt recordLength bytes) n (λ s l. same-true _ _ (sym (record-again n ed bytes g s l whole small) ∙ each s l)) in
     rw (image-is t n count, all, records-all recordLength bytes n, take-all (n * recordLength) bytes (omega arith)) (same-refl bytes))))
     (λ bad. rw bad)
 
 -- what is given, by what is asked of the decoded table, whose rows were made from the records
-pub given-placed : (n : ℕ) (bytes : List ℕ) → length bytes ≡ n * recordLength → Bytes bytes → {d : Decoded} {k : Checked} {verdict : ℕ}
-    → d ≡ decodedOf n bytes
+pub given-placed : (n ed : ℕ) (bytes : List ℕ) → length bytes ≡ n * recordLength → Bytes bytes → {d : Decoded} {k : Checked} {verdict : ℕ}
+    → d ≡ decodedOf n ed bytes
     → k ≡ checkedPlaced (d .table) bytes
     → verdict ≡ choose (d .exact && k .good) accepted badTable
-    → record { table = d .table; active = k .active; verdict = verdict } ≡ judgedImage n bytes
-given-placed n bytes whole small decoded checked verdict =
-    let t = tableOf n bytes in
+    → record { table = d .table; active = k .active; verdict = verdict } ≡ judgedImage n ed bytes
+given-placed n ed bytes whole small decoded checked verdict =
+    let t = tableOf n ed bytes in
     rw (
       verdict,
       checked,
       decoded,
-      image-exact n bytes whole small,
-      placed-good n t (placeRead bytes) (table-made n bytes),
+      image-exact n ed bytes whole small,
+      placed-good n t (placeRead bytes) (table-made n ed bytes),
     )
     (rw (and-comm (goodTable t) (exactUpTo bytes n)))

@@ -117,14 +117,14 @@ short-bare r size =
     (λ _. rw (past 20 (omega arith) (omega arith), past 21 (omega arith) (omega arith), past 22 (omega arith) (omega arith), past 23 (omega arith) (omega arith)))
 
 -- so a form without entry numbers is read as a table without them
-pub read-held : (n len : ℕ) (bytes : List ℕ) → let w = formOf n len .bytes in length bytes ≡ n * w
-    → holds (formOf n len) (tableOf n (reformed n w recordLength bytes)) ≡ true
-read-held n len bytes whole =
+pub read-held : (n ed len : ℕ) (bytes : List ℕ) → let w = formOf n len .bytes in length bytes ≡ n * w
+    → holds (formOf n len) (tableOf n ed (reformed n w recordLength bytes)) ≡ true
+read-held n ed len bytes whole =
     let w = formOf n len .bytes in
     let b = reformed n w recordLength bytes in
-    let bare : w ≡ atEntry → (s : ℕ) → s < n → eqb (taskAt (tableOf n b) s .entry) 0 ≡ true =
-    λ old s l. rw (task-read n b n s (omega arith) l, record-reformed n w recordLength bytes s l)
+    let bare : w ≡ atEntry → (s : ℕ) → s < n → eqb (taskAt (tableOf n ed b) s .entry) 0 ≡ true =
+    λ old s l. rw (task-read n ed b n s (omega arith) l, record-reformed n w recordLength bytes s l)
     (eq-eqb _ 0 (short-bare (recordAt w bytes s) (length-record n w bytes s l whole ∙ old))) in
     by-form n len
-    (λ old without. rw (without, table-shaped n b n .tasks) (below-all n _ (bare old)))
+    (λ old without. rw (without, table-shaped n ed b n .tasks) (below-all n _ (bare old)))
     (λ _ with. rw with)

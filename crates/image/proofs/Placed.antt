@@ -30,35 +30,35 @@ unfolding madeRows
 rows-same m w key key′ place zero e = refl
 rows-same m w key key′ place (suc k) e = rw (rows-same m w key key′ place k (λ s l. e s (omega arith)), e k (omega arith))
 
-module _ (n : ℕ) (bytes : List ℕ) where
+module _ (n ed : ℕ) (bytes : List ℕ) where
   abbrev task : ℕ → Task
   task s = taskFrom (recordAt recordLength bytes s)
 
-  pub task-read : (m s : ℕ) → m ≤ n → s < m → taskAt (tableUpTo n bytes m) s ≡ task s
+  pub task-read : (m s : ℕ) → m ≤ n → s < m → taskAt (tableUpTo n ed bytes m) s ≡ task s
   unfolding tableUpTo withStored
   task-read zero s h l = absurd (omega arith)
   task-read (suc m) s h l =
-      let tasks = tableUpTo n bytes m .tasks in
+      let tasks = tableUpTo n ed bytes m .tasks in
       elim (ℕ-discrete s m) [
-        | yes e ↦ rw e (getD-set-same tasks m (task m) noTask (omega (arith, table-shaped n bytes m .tasks)))
+        | yes e ↦ rw e (getD-set-same tasks m (task m) noTask (omega (arith, table-shaped n ed bytes m .tasks)))
         | no ne ↦ getD-set-other tasks m s (task m) noTask ne ∙ task-read m s (omega arith) (omega arith)
       ]
 
-  pub queues-made : (k : ℕ) → tableUpTo n bytes k .queues ≡ madeRows (queuesFor n) n (λ s. standing n (task s)) (placeRead bytes) k
+  pub queues-made : (k : ℕ) → tableUpTo n ed bytes k .queues ≡ madeRows (queuesFor n) n (λ s. standing n (task s)) (placeRead bytes) k
   unfolding tableUpTo withStored madeRows
   queues-made zero = refl
-  queues-made (suc k) = rw (queues-made k, table-shaped n bytes k .tasks)
+  queues-made (suc k) = rw (queues-made k, table-shaped n ed bytes k .tasks)
 
-  pub table-made : Made n (tableOf n bytes) (placeRead bytes)
+  pub table-made : Made n (tableOf n ed bytes) (placeRead bytes)
   table-made =
       record {
-        size = table-shaped n bytes n .tasks;
+        size = table-shaped n ed bytes n .tasks;
         queues = queues-made n
             ∙ rows-same (queuesFor n) n _ _ _ n (λ s l. ap (standing n) (sym (task-read n s (omega arith) l)));
       }
 
   -- a tid stands there only at its slot's place
-  pub place-found : (k p s : ℕ) → k < queuesFor n → placeAt (queueAt (tableOf n bytes) k) p ≡ markOf s → placeRead bytes s ≡ p
+  pub place-found : (k p s : ℕ) → k < queuesFor n → placeAt (queueAt (tableOf n ed bytes) k) p ≡ markOf s → placeRead bytes s ≡ p
   place-found k p s h e =
       made-place (queuesFor n) n n _ (placeRead bytes) k p s h (ap (λ (rows : List Queue). placeAt (rowAt rows k) p) (sym (queues-made n)) ∙ e)
 

@@ -14,7 +14,7 @@ use Rattle.queue.proofs.Below.{both-true, true-both, by-test, same-test, all-be
 use Rattle.task.specs.declared.task.Result.{Result}
 use Rattle.task.specs.declared.task.Result.the-variants.{Nothing, Fault}
 use Rattle.task.specs.declared.task.State.{State}
-use Rattle.task.specs.Task.{stateCode, messageOf, replyOf, awaited, isUsed, isReady, isReceiveBlocked}
+use Rattle.task.specs.Task.{stateCode, messageOf, replyOf, awaited, isUsed, isReady, isReceiveBlocked, isEventBlocked}
 use Rattle.task.specs.declared.task.Task.{Task}
 use Rattle.image.specs.declared.fields.Parts.{Parts}
 use Rattle.image.specs.declared.fields.ResultParts.{ResultParts}
@@ -73,7 +73,7 @@ rebuilt r place size small p =
 
 -- the place that a record's task is written with
 abbrev pub placeKept : List ℕ → Task → ℕ
-placeKept r x = choose (isReady (x .state) || isReceiveBlocked (x .state)) (placeFrom r) 0
+placeKept r x = choose (isReady (x .state) || isReceiveBlocked (x .state) || isEventBlocked (x .state)) (placeFrom r) 0
 
 abbrev pub keptPlace : List ℕ → ℕ
 keptPlace r = placeKept r (taskFrom r)
@@ -187,7 +187,7 @@ module _ (r : List ℕ) (size : length r ≡ recordLength) (small : Bytes r) whe
     used-exact h =
         let p = partsOf (stateFrom (partsIn r)) in
         let o = resultPartsOf (resultOf (resultPartsIn r)) in
-        let queued = eqb (byteIn r atState) 2 || eqb (byteIn r atState) 4 in
+        let queued = eqb (byteIn r atState) 2 || eqb (byteIn r atState) 4 || eqb (byteIn r atState) 6 in
         let (front, places) = both-true (sameParts p (partsIn r) && sameResultParts o (resultPartsIn r)) (queued || eqb (byteIn r atPlace) 0) h in
         let (parts-same, told-same) = both-true (sameParts p (partsIn r)) (sameResultParts o (resultPartsIn r)) front in
         let parts : p ≡ partsIn r = same-parts p (partsIn r) parts-same in
@@ -220,7 +220,7 @@ module _ (r : List ℕ) (size : length r ≡ recordLength) (small : Bytes r) whe
         let code : stateCode st ≡ byteIn r atState = at 0 in
         let kept : placeKept r (usedFrom r) ≡ byteIn r atPlace = at 3 in
         let placed : exactPlace (byteIn r atState) (byteIn r atPlace) ≡ true =
-        by-test (eqb (byteIn r atState) 2 || eqb (byteIn r atState) 4) (λ q. rw q)
+        by-test (eqb (byteIn r atState) 2 || eqb (byteIn r atState) 4 || eqb (byteIn r atState) 6) (λ q. rw q)
         (λ q. rw (q, eq-eqb (byteIn r atPlace) 0 (sym (rw (code, q) at kept)))) in
         true-both (true-both same-p same-o) placed
 

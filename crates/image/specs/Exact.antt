@@ -33,9 +33,9 @@ abbrev pub sameResultParts : ResultParts → ResultParts → Bool
 sameResultParts p q =
     eqb (p .kind) (q .kind) && eqb (p .from) (q .from) && eqb (p .cut) (q .cut) && eqb (p .word) (q .word)
 
--- a place stands only with a ready or a receive-blocked task: the waiter of an event stands alone, at 0, and any other in no queue
+-- a place stands only with a ready, a receive-blocked or an event-blocked task: any other stands in no queue
 abbrev pub exactPlace : ℕ → ℕ → Bool
-exactPlace code place = eqb code 2 || eqb code 4 || eqb place 0
+exactPlace code place = eqb code 2 || eqb code 4 || eqb code 6 || eqb place 0
 
 -- the state that parts give, and whether they and the place are those of a task in it
 abbrev pub statedFrom : Parts → ℕ → Stated
@@ -64,8 +64,8 @@ abbrev pub exactUpTo : List ℕ → ℕ → Bool
 exactUpTo bytes k = allBelow k (λ s. exactRecord (recordAt recordLength bytes s))
 
 -- the table of n slots that the records give, and whether each of them is exact
-abbrev pub decodedOf : ℕ → List ℕ → Decoded
-decodedOf n bytes = record { table = tableOf n bytes; exact = exactUpTo bytes n }
+abbrev pub decodedOf : ℕ → ℕ → List ℕ → Decoded
+decodedOf n ed bytes = record { table = tableOf n ed bytes; exact = exactUpTo bytes n }
 
 -- what is asked of the table that was read: whether each task stands at the place that its record gives, and which slot is active
 abbrev pub checkedPlaced : Table → List ℕ → Checked

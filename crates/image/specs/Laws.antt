@@ -7,7 +7,9 @@ use mathlib.Core.List.{List}
 use lib.ListN.{length}
 use Rattle.kernel.specs.declared.table.Table.{Table}
 use Rattle.kernel.specs.declared.table.Answer.{Answer}
+use Rattle.kernel.specs.Edition.{oneWaits, manyWait}
 use Rattle.kernel.specs.Numbers.{accepted}
+use Rattle.kernel.specs.Table.{inEdition}
 use Rattle.kernel.specs.Shape.{Shaped}
 use Rattle.rules.specs.Good.{goodResult}
 use Rattle.image.specs.Image.{reading}
@@ -15,17 +17,17 @@ use Rattle.image.specs.Stored.{readImage, writeVerdict, written, convert
 use Rattle.image.specs.Record.{recordLength}
 use Rattle.image.specs.Call.{answerBytes, answerFrom}
 
--- A table of n slots that was written as records reads back as that table, whatever the bytes held before.
+-- A table of n slots that was written as records reads back, in its edition, as that table, whatever the bytes held before.
 abbrev pub WrittenIsRead : Type 0
 WrittenIsRead =
     (n : ℕ) (t : Table) (bytes : List ℕ) → Shaped n t → writeVerdict t (length bytes) ≡ accepted
-    → readImage n (written t bytes) ≡ reading t accepted
+    → readImage n (t .edition) (written t bytes) ≡ reading t accepted
 
 -- Records that were accepted are written again unchanged.
 abbrev pub ReadIsWritten : Type 0
 ReadIsWritten =
-    (n : ℕ) (bytes : List ℕ) → let t = readImage n bytes .table in
-    readImage n bytes .verdict ≡ accepted → (writeVerdict t (length bytes) ≡ accepted) × (written t bytes ≡ bytes)
+    (n ed : ℕ) (bytes : List ℕ) → let t = readImage n ed bytes .table in
+    readImage n ed bytes .verdict ≡ accepted → (writeVerdict t (length bytes) ≡ accepted) × (written t bytes ≡ bytes)
 
 -- Conversion.
 
@@ -33,20 +35,28 @@ ReadIsWritten =
 -- Ruled out: a conversion that drops the entry number of a task that has exited.
 abbrev pub ConvertedIsRead : Type 0
 ConvertedIsRead =
-    (n : ℕ) (image out : List ℕ) → convertVerdict n image (length out) ≡ accepted
-    → readImage n (converted n image out) ≡ readImage n image
+    (n ed : ℕ) (image out : List ℕ) → convertVerdict n ed image (length out) ≡ accepted
+    → readImage n ed (converted n ed image out) ≡ readImage n ed image
 
 -- Converted back into the length that it came from, an image is what it was, whatever the bytes held that it is written into.
 abbrev pub ThereAndBack : Type 0
 ThereAndBack =
-    (n : ℕ) (image out back : List ℕ) → length back ≡ length image → convertVerdict n image (length out) ≡ accepted
-    → let there = converted n image out in
-    (convertVerdict n there (length back) ≡ accepted) × (converted n there back ≡ image)
+    (n ed : ℕ) (image out back : List ℕ) → length back ≡ length image → convertVerdict n ed image (length out) ≡ accepted
+    → let there = converted n ed image out in
+    (convertVerdict n ed there (length back) ≡ accepted) × (converted n ed there back ≡ image)
 
--- Every image that is read is written in the newest form: the way from an old form is refused by 7 or 2 alone.
+-- Every image that is read is written in the newest form: the way from an old form is refused by 12, 7 or 2 alone.
 abbrev pub NewestHoldsAll : Type 0
 NewestHoldsAll =
-    (n : ℕ) (image : List ℕ) → readImage n image .verdict ≡ accepted → convertVerdict n image (n * recordLength) ≡ accepted
+    (n ed : ℕ) (image : List ℕ) → readImage n ed image .verdict ≡ accepted → convertVerdict n ed image (n * recordLength) ≡ accepted
+
+-- The edition stands in no image. One that is read where one waits is read where many wait, as the same tasks in the same queues. The other
+-- way an image may be refused by 2: where two tasks wait for one event.
+-- Ruled out: places of waiters that mean something else in the other edition, so that a host could not go over to it.
+abbrev pub OneIsReadAsMany : Type 0
+OneIsReadAsMany =
+    (n : ℕ) (image : List ℕ) → let r = readImage n oneWaits image in
+    r .verdict ≡ accepted → readImage n manyWait image ≡ reading (inEdition manyWait (r .table)) accepted
 
 -- The bytes of an answer tell that answer, where its numbers are words and its result is one that may be shown of n tids.
 abbrev pub AnswerIsRead : Type 0

@@ -261,7 +261,7 @@ fn stated_from(parts: Parts, place: u8) -> Stated
         ),
         EVENT_BLOCKED => read_as(
             State::EventBlocked(awaited),
-            no_buffer(message) & no_buffer(reply) & unplaced,
+            no_buffer(message) & no_buffer(reply),
         ),
         EXITED => read_as(State::Exited, bare & unplaced),
         _ => read_as(State::Unused, false),

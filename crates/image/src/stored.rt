@@ -8,7 +8,9 @@ use crate::form::Form;
 use crate::form::form_at;
 use crate::form::form_for;
 use crate::form::reform;
+use kernel::edition::is_edition;
 use kernel::numbers::ACCEPTED;
+use kernel::numbers::BAD_EDITION;
 use kernel::numbers::BAD_IMAGE;
 use kernel::numbers::BAD_TABLE;
 use kernel::numbers::ENTRY_LOST;
@@ -21,7 +23,7 @@ use queue::wide;
 use rules::Checked;
 use rules::slots::active_if_ready;
 use rules::slots::good_slot;
-use rules::slots::single;
+use rules::slots::waiters_fit;
 use task::search::first_active;
 use task::search::used_slots;
 use task::standing::queue_of;
@@ -34,10 +36,9 @@ ghost use lib.Seq.{paste};
 ghost use Rattle.tid.specs.Sizes.{slotCount};
 ghost use Rattle.queue.specs.Numbering.{places};
 ghost use Rattle.queue.specs.Placed.{placedRow};
-ghost use Rattle.rules.specs.Fresh.{unusedTable};
 ghost use Rattle.image.specs.Record.{recordLength};
 ghost use Rattle.image.specs.Form as Forms;
-ghost use Rattle.image.specs.Image.{imageOf, reading, judgedImage};
+ghost use Rattle.image.specs.Image.{imageOf, unread, judgedImage};
 ghost use Rattle.image.specs.Stored.{readImage, writeVerdict, written, convertVerdict, converted};
 ghost use Rattle.image.specs.Exact.{decodedOf, checkedPlaced};
 
@@ -84,11 +85,11 @@ struct Decoded {
     exact: bool,
 }
 
-fn decode(bytes: &[u8]) -> Decoded
+fn decode(edition: u32, bytes: &[u8]) -> Decoded
     requires { ⌜ length (now bytes) ≡ slotCount * recordLength ⌝ }
-    ensures { λ r. ⌜ r ≡ decodedOf slotCount (now (bytes .entry)) ⌝ }
+    ensures { λ r. ⌜ r ≡ decodedOf slotCount edition (now (bytes .entry)) ⌝ }
 {
-    let mut table = rules::unused_table();
+    let mut table = rules::blank_table(edition);
     let mut exact = true;
     let mut s = 0;
     while s < SLOTS {
@@ -155,12 +156,15 @@ fn holds(form: Form, table: Table) -> bool
     none
 }
 
-// The records of a good table, in the form that has as many bytes. Refused by 7 where none has, then by 2 where a rule is broken, then by 11
-// where the form has no room for an entry number: no byte is written then.
+// The records of a good table, in the form that has as many bytes. Refused by 12 where there is no such edition, then by 7 where no form has
+// as many, then by 2 where a rule is broken, then by 11 where the form has no room for an entry number: no byte is written then.
 pub fn write(table: Table, out: &mut [u8]) -> u8
     ensures verdict { λ r. ⌜ r ≡ writeVerdict table (length (now (out .entry))) ⌝ }
     ensures bytes { λ r. ⌜ now (out .exit) ≡ written table (now (out .entry)) ⌝ }
 {
+    if !is_edition(table.edition) {
+        return BAD_EDITION;
+    }
     let k = form_for(out.len());
     if FORMS <= k {
         return BAD_IMAGE;
@@ -179,7 +183,7 @@ pub fn write(table: Table, out: &mut [u8]) -> u8
 }
 
 fn refused(verdict: u8) -> Reading
-    ensures { λ r. ⌜ r ≡ reading (unusedTable slotCount) verdict ⌝ }
+    ensures { λ r. ⌜ r ≡ unread slotCount verdict ⌝ }
 {
     Reading {
         table: rules::unused_table(),
@@ -198,7 +202,10 @@ fn check_placed(table: Table, bytes: &[u8]) -> Checked
     let queues = table.queues;
     let used = used_slots(tasks);
     let active = first_active(tasks);
-    let mut good = (1 <= used) & active_if_ready(queues, active) & single(queues);
+    let mut good = is_edition(table.edition)
+        & (1 <= used)
+        & active_if_ready(queues, active)
+        & waiters_fit(table.edition, queues);
     let mut s = 0;
     while s < SLOTS {
         let task = tasks[s];
@@ -214,11 +221,11 @@ fn check_placed(table: Table, bytes: &[u8]) -> Checked
 }
 
 // The table that bytes of the newest form give, with the verdict on them.
-fn judged(bytes: &[u8]) -> Reading
+fn judged(edition: u32, bytes: &[u8]) -> Reading
     requires { ⌜ length (now bytes) ≡ slotCount * recordLength ⌝ }
-    ensures { λ r. ⌜ r ≡ judgedImage slotCount (now (bytes .entry)) ⌝ }
+    ensures { λ r. ⌜ r ≡ judgedImage slotCount edition (now (bytes .entry)) ⌝ }
 {
-    let decoded = decode(bytes);
+    let decoded = decode(edition, bytes);
     let table = decoded.table;
     let checked = check_placed(table, bytes);
     let verdict = if decoded.exact & checked.good {
@@ -233,16 +240,20 @@ fn judged(bytes: &[u8]) -> Reading
     }
 }
 
-// The table of an image of any form. Refused by 7 where its length is no form's, then by 2 where it is not the image of a good table.
-pub fn read(bytes: &[u8]) -> Reading
-    ensures { λ r. ⌜ r ≡ readImage slotCount (now (bytes .entry)) ⌝ }
+// The table of an image of any form, in the edition that is given with it. Refused by 12 where there is no such edition, then by 7 where its
+// length is no form's, then by 2 where it is not the image of a good table.
+pub fn read(edition: u32, bytes: &[u8]) -> Reading
+    ensures { λ r. ⌜ r ≡ readImage slotCount edition (now (bytes .entry)) ⌝ }
 {
+    if !is_edition(edition) {
+        return refused(BAD_EDITION);
+    }
     if FORMS <= form_for(bytes.len()) {
         return refused(BAD_IMAGE);
     }
     let mut newest = [0u8; IMAGE];
     reform(bytes, &mut newest);
-    let reading = judged(&newest);
+    let reading = judged(edition, &newest);
     if reading.verdict == BAD_TABLE {
         return refused(BAD_TABLE);
     }
@@ -250,15 +261,18 @@ pub fn read(bytes: &[u8]) -> Reading
 }
 
 // An image of any form written in the form that has as many bytes as `out`: a reading and a writing, but that both lengths are asked first.
-// Refused by 7, 2 or 11: no byte is written then.
-pub fn convert(image: &[u8], out: &mut [u8]) -> u8
-    ensures verdict { λ r. ⌜ r ≡ convertVerdict slotCount (now (image .entry)) (length (now (out .entry))) ⌝ }
-    ensures bytes { λ r. ⌜ now (out .exit) ≡ converted slotCount (now (image .entry)) (now (out .entry)) ⌝ }
+// Refused by 12, 7, 2 or 11: no byte is written then.
+pub fn convert(edition: u32, image: &[u8], out: &mut [u8]) -> u8
+    ensures verdict { λ r. ⌜ r ≡ convertVerdict slotCount edition (now (image .entry)) (length (now (out .entry))) ⌝ }
+    ensures bytes { λ r. ⌜ now (out .exit) ≡ converted slotCount edition (now (image .entry)) (now (out .entry)) ⌝ }
 {
+    if !is_edition(edition) {
+        return BAD_EDITION;
+    }
     if FORMS <= form_for(out.len()) {
         return BAD_IMAGE;
     }
-    let reading = read(image);
+    let reading = read(edition, image);
     if ACCEPTED < reading.verdict {
         return reading.verdict;
     }

@@ -35,7 +35,7 @@ use Rattle.audit.specs.Survey.{usedIn, countUpTo}
 use Rattle.audit.specs.Audit.{foundIn}
 use Rattle.audit.proofs.Counts.{count-length}
 use Rattle.audit.proofs.Asked.{image-used, image-active, image-counted}
-use Rattle.inplace.specs.declared.kinds.Turn.{Turn}
+use Rattle.inplace.specs.declared.turn.Turn.{Turn}
 use Rattle.inplace.specs.declared.Shown.{Shown}
 use Rattle.inplace.specs.Ends.{Begins, Ends, Does, endBytes}
 use Rattle.inplace.specs.Decided.{decidedIn, Decided}
@@ -58,40 +58,40 @@ module _ (t : Table) (r : Request) (n a v : ℕ) (size : slots t ≡ n) (act : a
 abbrev pub shownBy : ℕ → ℕ → Effect → Shown
 shownBy verdict next e = record { answer = record { verdict = verdict; next = next; result = Nothing }; effect = e }
 
-module _ (n : ℕ) (b : List ℕ) where
-  pub wrong-length : (r : Request) → length b ≢ n * recordLength → Decided (decidedIn n b r) b (shownBy badImage 0 Keep) b
+module _ (n ed : ℕ) (b : List ℕ) where
+  pub wrong-length : (r : Request) → length b ≢ n * recordLength → Decided (decidedIn n ed b r) b (shownBy badImage 0 Keep) b
   unfolding decidedIn
   wrong-length r other = rw (ne-eqb (length b) (n * recordLength) other) (record { shown = refl; effect = refl; image = refl })
 
   module _ (sized : length b ≡ n * recordLength) (small : Bytes b) where
-    pub wrong-image : (r : Request) → isImage n b ≡ false → Decided (decidedIn n b r) b (shownBy badTable 0 Keep) b
+    pub wrong-image : (r : Request) → isImage n ed b ≡ false → Decided (decidedIn n ed b r) b (shownBy badTable 0 Keep) b
     unfolding decidedIn
     wrong-image r bad = rw (eq-eqb (length b) (n * recordLength) sized, bad) (record { shown = refl; effect = refl; image = refl })
 
-    decided-good : (r : Request) → isImage n b ≡ true → decidedIn n b r ≡ decide (tableOf n b) r
+    decided-good : (r : Request) → isImage n ed b ≡ true → decidedIn n ed b r ≡ decide (tableOf n ed b) r
     unfolding decidedIn
     decided-good r good = rw (eq-eqb (length b) (n * recordLength) sized, good)
 
     -- what was found, where the bytes are an image
-    module _ (f : Found) (found : f ≡ foundIn n b) where
-      pub found-good : f .good ≡ isImage n b
+    module _ (f : Found) (found : f ≡ foundIn n ed b) where
+      pub found-good : f .good ≡ isImage n ed b
       unfolding foundIn
       found-good = ap (λ (x : Found). x .good) found ∙ rw (eq-eqb (length b) (n * recordLength) sized)
 
-      module _ (good : isImage n b ≡ true) where
+      module _ (good : isImage n ed b ≡ true) where
         abbrev t : Table
-        t = tableOf n b
+        t = tableOf n ed b
 
         rules : Good n t
-        rules = write-back n good .0
+        rules = write-back n ed good .0
 
         used : f .used ≡ usedSlots t
         unfolding foundIn
-        used = ap (λ (x : Found). x .used) found ∙ rw (eq-eqb (length b) (n * recordLength) sized) (image-used n b sized small good)
+        used = ap (λ (x : Found). x .used) found ∙ rw (eq-eqb (length b) (n * recordLength) sized) (image-used n ed b sized small good)
 
         pub active : f .active ≡ activeSlot t
         unfolding foundIn
-        active = ap (λ (x : Found). x .active) found ∙ rw (eq-eqb (length b) (n * recordLength) sized) (image-active n b sized small good)
+        active = ap (λ (x : Found). x .active) found ∙ rw (eq-eqb (length b) (n * recordLength) sized) (image-active n ed b sized small good)
 
         count : f .count ≡ countUpTo n b (usedIn n b)
         unfolding foundIn
@@ -101,41 +101,41 @@ module _ (n : ℕ) (b : List ℕ) where
         size = rules .rules .size
 
         records : Records n (recordOf t) b
-        records = subst (λ (x : List ℕ). Records n (recordOf t) x) (write-back n good .1) (image-records n t size)
+        records = subst (λ (x : List ℕ). Records n (recordOf t) x) (write-back n ed good .1) (image-records n t size)
 
-        pub begins : Begins n (f .used) (f .active) b (f .count)
+        pub begins : Begins n ed (f .used) (f .active) b (f .count)
         begins =
             let near : activeSlot t ≤ n = omega (arith, first-active t .most, size) in
             record {
               stage = record {
                 rules = rw (used, active) (rules .rules);
                 records = records;
-                counts = λ p h. rw count (image-counted n b sized small good p (omega arith));
+                counts = λ p h. rw count (image-counted n ed b sized small good p (omega arith));
                 long = rw (count, count-length n b (usedIn n b)) (omega arith);
               };
               near = rw active near;
               runs = λ h. rw active (eqb-true _ 1 (first-active t .passes (omega (arith, active, size))));
-              counted = λ k h. rw count (image-counted n b sized small good k h);
+              counted = λ k h. rw count (image-counted n ed b sized small good k h);
             }
 
         -- the three forms that a decision has
         module _ (r : Request) (v : ℕ) (is : v ≡ refusalOf n (f .active) r) where
-          pub decided-refused : accepted < v → Decided (decidedIn n b r) b (shownBy v (shownTid n (f .active)) Keep) b
+          pub decided-refused : accepted < v → Decided (decidedIn n ed b r) b (shownBy v (shownTid n (f .active)) Keep) b
           decided-refused some =
               rw (decided-good r good, decide-refused t r n (f .active) v size active is some)
               (record { shown = refl; effect = refl; image = rw (lt-ltb accepted v some) })
 
           pub decided-write : v ≤ accepted → r .kind ≡ ownWriteKind
-              → Decided (decidedIn n b r) b (shownBy accepted (tidOf (f .active)) (Put (placeIn (f .active) (r .arg0)) (r .arg1))) b
+              → Decided (decidedIn n ed b r) b (shownBy accepted (tidOf (f .active)) (Put (placeIn (f .active) (r .arg0)) (r .arg1))) b
           unfolding ownWrite
           decided-write none own =
               rw (decided-good r good, decide-write t r n (f .active) v size active is none own)
-              (record { shown = refl; effect = refl; image = sym (write-back n good .1) })
+              (record { shown = refl; effect = refl; image = sym (write-back n ed good .1) })
 
           pub decided-enters : v ≤ accepted → r .kind ≢ ownWriteKind → (u : Turn) {b′ count after : List ℕ} {shown : Shown}
-              → Ends n (f .active) (turnOf t (f .active) r) u b′ count
-              → Does (dispatched (u .effect) (tableOf n (endBytes n b′ count (f .active) u))) shown after
-              → Decided (decidedIn n b r) b shown after
+              → Ends n ed (f .active) (turnOf t (f .active) r) u b′ count
+              → Does (dispatched (u .effect) (tableOf n ed (endBytes n b′ count (f .active) u))) shown after
+              → Decided (decidedIn n ed b r) b shown after
           unfolding settled
           decided-enters none other u e d =
               rw (decided-good r good, decide-enters t r n (f .active) v size active is none other, ← e .effect, ← e .table)

@@ -5,7 +5,7 @@ use denote.Ref.{now}
 use Rattle.tid.specs.Determined.{Determines}
 use Rattle.inplace.proofs.decide.Reads as decide
 
-decide-determined : (κs : _) (a : _) → Determines (decide.Post κs a) (λ s. now (s .0))
+decide-determined : (κs : _) (a : _) → Determines (decide.Post κs a) (λ s. now (s .1 .0))
 decide-determined κs a r r′ s s′ p p′ =
     let answer = p .shown ∙⁻¹ p′ .shown in
     let effect = p .effect ∙⁻¹ p′ .effect in

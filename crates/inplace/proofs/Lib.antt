@@ -3,8 +3,8 @@ pub mod Buffers
 pub mod Ways
 pub mod Queues
 pub mod Requests
-pub mod Messages
-pub mod Events
+pub mod MessageWays
+pub mod EventWays
 pub mod Dispatched
 pub mod Decisions
 mod Determined

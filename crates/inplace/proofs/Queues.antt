@@ -1,6 +1,6 @@
 -- A whole queue is woken before the entry ends.
 use Prim.Native.Nat.{ℕ, _≤_, _<_}
-use mathlib.Core.Path.{_≡_, refl}
+use mathlib.Core.Path.{_≡_, refl, _∙_}
 use mathlib.Core.Bool.{true, false}
 use mathlib.Core.List.{List}
 use native.Mathlib.Omega.{arith}
@@ -21,6 +21,7 @@ use Rattle.kept.proofs.Moves.{vacated-kept}
 use Rattle.kept.proofs.Woken.{others-woken}
 use Rattle.image.specs.Record.{atPriority, atAwaited}
 use Rattle.image.specs.Image.{tableOf}
+use Rattle.image.proofs.Laws.{edition-read}
 use Rattle.records.specs.Woken.{wokenIn}
 use Rattle.records.proofs.Told.{Told}
 use Rattle.records.proofs.Heads.{closed-byte}
@@ -29,17 +30,17 @@ use Rattle.records.proofs.Wakes.{headsWoken, stands, round-head, rounds, all-wo
 use Rattle.inplace.specs.Ends.{Begins, Wakes}
 use Rattle.inplace.proofs.Ways.{joinable, Woke, nobody-woke}
 
-module _ {n used c : ℕ} {b count : List ℕ} (g : Begins n used c b count) (small : n < 255)
+module _ {n ed used c : ℕ} {b count : List ℕ} (g : Begins n ed used c b count) (small : n < 255)
     (code key k : ℕ) (told : (x : Table) → Rules n used c x → Told n x code atAwaited key k) (past : priorities ≤ k)
     (o : Result) (good : goodResult used o ≡ true) where
-  pub queue-wakes : Wakes n used code key (queueAt (tableOf n b) k .len) o b count
+  pub queue-wakes : Wakes n used code key (queueAt (tableOf n ed b) k .len) o b count
   queue-wakes =
       let f = g .stage .rules in
       record {
         fits = f .tasks .fits;
         size = g .stage .records .size;
         joins = λ i l.
-            let x = headsWoken (tableOf n b) k o i in
+            let x = headsWoken (tableOf n ed b) k o i in
             let s = headAt x k in
             let r = rounds (g .stage) told past o good i (omega arith) in
             let u : s < used = head-used (r .stage) (told x (r .stage .rules)) (stands (g .stage) told past o good r l) in
@@ -49,17 +50,17 @@ module _ {n used c : ℕ} {b count : List ℕ} (g : Begins n used c b count) (sm
             (omega (arith, f .tasks .fits), record { priority = rw own (can .priority); room = rw own (can .room) });
       }
 
-  pub queue-woke : let q = queueAt (tableOf n b) k in
-      let t = withQueue (tableOf n b) k (emptied q) in
+  pub queue-woke : let q = queueAt (tableOf n ed b) k in
+      let t = withQueue (tableOf n ed b) k (emptied q) in
       let h = wokenIn n used code key o b count (q .len) in
-      Woke n used c n Nothing q o t (h .bytes) (h .counts) (wokenRow t q o) (h .bytes) (h .counts) × (queueAt (wokenRow t q o) k .len ≡ 0)
+      Woke n ed used c n Nothing q o t (h .bytes) (h .counts) (wokenRow t q o) (h .bytes) (h .counts) × (queueAt (wokenRow t q o) k .len ≡ 0)
   queue-woke =
       let f = g .stage .rules in
-      let t = tableOf n b in
+      let t = tableOf n ed b in
       let within = told t f .within in
       let row = f .lined .holds .row k (rw (f .lined .shaped .count) within) in
       let out : c < n → eqb (standing n (taskAt t c)) k ≡ false = λ h. rw (free n (taskAt t c) (rw (g .runs h)) .nowhere) (ne-eqb (queuesFor n) k (omega arith)) in
-      let (stage, none) = all-woken (g .stage) told past o good in (
-        nobody-woke stage small (g .near) (λ h. same-code (others-woken (vacated-kept f k within) row o c (out h)) (g .runs h)) refl,
+      let (stage, none, same) = all-woken (g .stage) told past o good in (
+        nobody-woke stage small (g .near) (λ h. same-code (others-woken (vacated-kept f k within) row o c (out h)) (g .runs h)) refl (same ∙ edition-read n ed b n),
         none,
       )

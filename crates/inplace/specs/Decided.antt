@@ -14,13 +14,13 @@ use Rattle.image.specs.Record.{recordLength}
 use Rattle.image.specs.Image.{imageOf, tableOf, isImage}
 use Rattle.inplace.specs.declared.Shown.{Shown}
 
--- refused by 7 where the bytes have another length than an image of n slots, then by 2 where they are not the image of a good table;
--- else what the table that they give decides
-unfoldable pub decidedIn : ℕ → List ℕ → Request → Decision
-decidedIn n b r =
-    let t = tableOf n b in
+-- refused by 7 where the bytes have another length than an image of n slots, then by 2 where they are not the image of a good table, which
+-- has an edition that there is; else what the table that they give decides
+unfoldable pub decidedIn : ℕ → ℕ → List ℕ → Request → Decision
+decidedIn n ed b r =
+    let t = tableOf n ed b in
     choose (not (eqb (length b) (n * recordLength))) (refused t badImage 0)
-    (choose (not (isImage n b)) (refused t badTable 0)
+    (choose (not (isImage n ed b)) (refused t badTable 0)
     (decide t r))
 
 -- the bytes after a decision: a refusal leaves them as they are

@@ -27,7 +27,7 @@ use Rattle.image.specs.Image.{imageOf, tableOf}
 use Rattle.records.specs.Records.{upAt, closedUp, leadsAt, headOf}
 use Rattle.records.specs.Stage.{Counted, Stage, leftBytes, joinedBytes, joinedCount}
 use Rattle.records.specs.Woken.{wokenIn}
-use Rattle.inplace.specs.declared.kinds.Turn.{Turn}
+use Rattle.inplace.specs.declared.turn.Turn.{Turn}
 use Rattle.inplace.specs.declared.Shown.{Shown}
 
 -- one slot moves up, and is answered where it leads
@@ -60,11 +60,11 @@ pub record Wakes (n used code key m : ℕ) (o : Result) (b count : List ℕ) : T
       (s < n) × Joinable (closedUp code atAwaited key (h .bytes) used) (h .counts) s
 
 -- what an entry begins with: the image of a table that keeps the rules, and how many stand in each of its queues
-pub record Begins (n used a : ℕ) (b count : List ℕ) : Type 0 where
-  pub stage : Stage n used a nobody (tableOf n b) b count
+pub record Begins (n ed used a : ℕ) (b count : List ℕ) : Type 0 where
+  pub stage : Stage n used a nobody (tableOf n ed b) b count
   pub near : a ≤ n
-  pub runs : a < n → stateCode (taskAt (tableOf n b) a .state) ≡ 1
-  pub counted : Counted n (tableOf n b) count
+  pub runs : a < n → stateCode (taskAt (tableOf n ed b) a .state) ≡ 1
+  pub counted : Counted n (tableOf n ed b) count
 
 -- The bytes and the counts once whoever was woken has joined its queue, and then the caller.
 
@@ -114,18 +114,18 @@ deliversAt used c m r s into =
     }
 
 -- what the end of an entry needs: then the bytes are those of a table where none is active
-pub record Settles (n c : ℕ) (r : Turn) (b count : List ℕ) : Type 0 where
+pub record Settles (n ed c : ℕ) (r : Turn) (b count : List ℕ) : Type 0 where
   pub size : length b ≡ n * recordLength
   pub near : c ≤ n
   pub woken : r .woken < n → Joinable b count (r .woken)
   pub caller : c < n → isReady (r .state) ≡ true → Joinable (wokenBytes n b count r) (wokenCount n b count r) c
-  pub stage : Stage n (r .used) n nobody (tableOf n (endBytes n b count c r)) (endBytes n b count c r) (endCount n b count c r)
+  pub stage : Stage n (r .used) n nobody (tableOf n ed (endBytes n b count c r)) (endBytes n b count c r) (endCount n b count c r)
 
 -- a turn in place that stands for a turn of the table: once it is settled, the bytes are those of the table that is dispatched
-pub record Ends (n c : ℕ) (u : Kernel.Turn) (r : Turn) (b count : List ℕ) : Type 0 where
-  pub settles : Settles n c r b count
+pub record Ends (n ed c : ℕ) (u : Kernel.Turn) (r : Turn) (b count : List ℕ) : Type 0 where
+  pub settles : Settles n ed c r b count
   pub effect : r .effect ≡ u .effect
-  pub table : tableOf n (endBytes n b count c r) ≡ rejoined (wokenRow (u .table) (u .woken) (u .told)) c (u .state) (u .result)
+  pub table : tableOf n ed (endBytes n b count c r) ≡ rejoined (wokenRow (u .table) (u .woken) (u .told)) c (u .state) (u .result)
 
 -- what a decision shows, and the image of its table
 pub record Decides (d : Decision) (answer : Answer) (b : List ℕ) : Type 0 where

@@ -12,10 +12,10 @@ ghost use Rattle.image.specs.Image.{tableOf};
 ghost use Rattle.records.specs.Stage.{Stage};
 ghost use Rattle.inplace.specs.Ends.{Settles, endBytes, Decides, Does};
 use crate::Shown;
-use crate::kinds::Turn;
 use crate::store::close_up;
 use crate::store::leave;
 use crate::store::result_at;
+use crate::turn::Turn;
 use crate::wake::join;
 use image::fields::PRIORITY;
 use image::fields::RECORD;
@@ -58,9 +58,9 @@ fn nobody() -> Answer
 }
 
 // The head of the first ready queue that is not empty runs next, and is told its result.
-fn dispatch(image: &mut [u8], used: usize, count: &[u8; QUEUES]) -> Answer
-    requires { ⌜ Stage slotCount used slotCount Facts.nobody (tableOf slotCount (now image)) (now image) (now count) ⌝ }
-    ensures { λ r. ⌜ Decides (Moves.dispatched E.Keep (tableOf slotCount (now (image .entry)))) r (now (image .exit)) ⌝ }
+fn dispatch(edition: u32, image: &mut [u8], used: usize, count: &[u8; QUEUES]) -> Answer
+    requires { ⌜ Stage slotCount used slotCount Facts.nobody (tableOf slotCount edition (now image)) (now image) (now count) ⌝ }
+    ensures { λ r. ⌜ Decides (Moves.dispatched E.Keep (tableOf slotCount edition (now (image .entry)))) r (now (image .exit)) ⌝ }
 {
     let p = first_ready(count);
     if PRIORITIES <= p {
@@ -77,9 +77,15 @@ fn dispatch(image: &mut [u8], used: usize, count: &[u8; QUEUES]) -> Answer
 }
 
 // Whoever is woken joins the queue of its priority, then the caller, unless there is none or it stops; then the next task is chosen.
-pub(crate) fn settled(image: &mut [u8], count: &mut [u8; QUEUES], c: usize, turn: Turn) -> Shown
-    requires { ⌜ Settles slotCount c turn (now image) (now count) ⌝ }
-    ensures { λ r. ⌜ Does (Moves.dispatched (turn .effect) (tableOf slotCount (endBytes slotCount (now (image .entry)) (now (count .entry)) c turn))) r (now (image .exit)) ⌝ }
+pub(crate) fn settled(
+    edition: u32,
+    image: &mut [u8],
+    count: &mut [u8; QUEUES],
+    c: usize,
+    turn: Turn,
+) -> Shown
+    requires { ⌜ Settles slotCount edition c turn (now image) (now count) ⌝ }
+    ensures { λ r. ⌜ Does (Moves.dispatched (turn .effect) (tableOf slotCount edition (endBytes slotCount (now (image .entry)) (now (count .entry)) c turn))) r (now (image .exit)) ⌝ }
 {
     let woken = turn.woken;
     let told = turn.told;
@@ -95,7 +101,7 @@ pub(crate) fn settled(image: &mut [u8], count: &mut [u8; QUEUES], c: usize, turn
             leave(&mut *image, c, state, Result::Nothing, turn.place);
         }
     }
-    let answer = dispatch(&mut *image, turn.used, &*count);
+    let answer = dispatch(edition, &mut *image, turn.used, &*count);
     let effect = turn.effect;
     Shown { answer, effect }
 }

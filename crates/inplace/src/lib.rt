@@ -1,7 +1,10 @@
 // A request carried out on the records of an image, in place: no table is made.
 mod end;
+mod events;
 mod kinds;
+mod messages;
 mod store;
+mod turn;
 mod wake;
 
 ghost use mathlib.Core.Path.{_≡_};
@@ -45,13 +48,13 @@ fn told_nothing(verdict: u8, next: u8, effect: Effect) -> Shown
 }
 
 // What is decided of the table that an image holds, and the image of the table that it leaves.
-pub fn decide(image: &mut [u8], r: Request) -> Shown
-    ensures { λ d. ⌜ Decided (decidedIn slotCount (now (image .entry)) r) (now (image .entry)) d (now (image .exit)) ⌝ }
+pub fn decide(edition: u32, image: &mut [u8], r: Request) -> Shown
+    ensures { λ d. ⌜ Decided (decidedIn slotCount edition (now (image .entry)) r) (now (image .entry)) d (now (image .exit)) ⌝ }
 {
     if image.len() != IMAGE {
         return told_nothing(BAD_IMAGE, 0, Effect::Keep);
     }
-    let found = check(&*image);
+    let found = check(edition, &*image);
     if !found.good {
         return told_nothing(BAD_TABLE, 0, Effect::Keep);
     }
@@ -68,6 +71,6 @@ pub fn decide(image: &mut [u8], r: Request) -> Shown
         return told_nothing(ACCEPTED, tid_of(a), effect);
     }
     let mut count = found.count;
-    let turn = turned(&mut *image, found.used, &mut count, a, r);
-    settled(&mut *image, &mut count, a, turn)
+    let turn = turned(edition, &mut *image, found.used, &mut count, a, r);
+    settled(edition, &mut *image, &mut count, a, turn)
 }

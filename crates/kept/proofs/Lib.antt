@@ -1,3 +1,5 @@
+pub mod Choices
+pub mod Edition
 pub mod Tasks
 pub mod Change
 pub mod Moves

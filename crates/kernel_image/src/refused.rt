@@ -1,5 +1,6 @@
 // Refusals, by their numbers and in words, on standard error. Each answers whether all was written.
 use crate::text::number;
+use kernel::numbers::BAD_EDITION;
 use kernel::numbers::BAD_IMAGE;
 use kernel::numbers::ENTRY_LOST;
 use kernel::table::Table;
@@ -22,12 +23,21 @@ pub(crate) fn say_length(len: usize) -> bool {
         && io::write_all(STDERR_FILENO, b" bytes are no form's length\n")
 }
 
-// An image of so many bytes that is not read.
-pub(crate) fn say_refusal(verdict: u8, len: usize) -> bool {
+// An image of so many bytes that is not read. Which edition broke the rule is said, since the same bytes may be an image in the other.
+pub(crate) fn say_refusal(verdict: u8, edition: u32, len: usize) -> bool {
+    if verdict == BAD_EDITION {
+        return say_number(verdict) && io::write_all(STDERR_FILENO, b": an edition is 1 or 2\n");
+    }
     if verdict == BAD_IMAGE {
         return say_length(len);
     }
-    say_number(verdict) && io::write_all(STDERR_FILENO, b": a rule of a table is broken\n")
+    say_number(verdict)
+        && number(
+            STDERR_FILENO,
+            b": a rule of a table of edition ",
+            edition as u64,
+        )
+        && io::write_all(STDERR_FILENO, b" is broken\n")
 }
 
 // The first slot whose task has an entry number other than 0; SLOTS where none has.

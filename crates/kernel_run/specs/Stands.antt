@@ -7,17 +7,17 @@ use Rattle.kernel.specs.declared.table.Table.{Table}
 use Rattle.lines.specs.Block.{linesFrom}
 use Rattle.lines.specs.Printed.{stepsOf, linesOf, Whole, Reached}
 
--- there is an input of whole records whose run leads here
-abbrev pub Stands : Table → ℕ → List ℕ → Type 0
-Stands table step areas = (input : List ℕ) × Reached input table step areas
+-- there is an input of whole records whose run in an edition leads here
+abbrev pub Stands : ℕ → Table → ℕ → List ℕ → Type 0
+Stands ed table step areas = (input : List ℕ) × Reached ed input table step areas
 
 -- whatever input led to a place, bytes behind it lead to another
-abbrev pub Leads : Table → ℕ → List ℕ → Table → ℕ → List ℕ → Type 0
-Leads table step areas table′ step′ areas′ =
-    (input : List ℕ) → Reached input table step areas → (bytes : List ℕ) × Reached (input ++ bytes) table′ step′ areas′
+abbrev pub Leads : ℕ → Table → ℕ → List ℕ → Table → ℕ → List ℕ → Type 0
+Leads ed table step areas table′ step′ areas′ =
+    (input : List ℕ) → Reached ed input table step areas → (bytes : List ℕ) × Reached ed (input ++ bytes) table′ step′ areas′
 
 -- What a block of bytes leaves behind an input that led to it: a text that goes on where the input's lines end, wide or not, and, where
 -- the bytes are whole records, the place where the run of both stands.
-pub record Onward (wide : Bool) (input bytes text : List ℕ) (table : Table) (step : ℕ) (areas : List ℕ) : Type 0 where
-  pub printed : linesFrom wide 1 (stepsOf input) ++ text ≡ linesOf wide (input ++ bytes)
-  pub stands : Whole bytes → Reached (input ++ bytes) table step areas
+pub record Onward (wide : Bool) (ed : ℕ) (input bytes text : List ℕ) (table : Table) (step : ℕ) (areas : List ℕ) : Type 0 where
+  pub printed : linesFrom wide 1 (stepsOf ed input) ++ text ≡ linesOf wide ed (input ++ bytes)
+  pub stands : Whole bytes → Reached ed (input ++ bytes) table step areas

@@ -32,14 +32,13 @@ use Rattle.kernel.specs.Turn.{settled}
 use Rattle.kernel.specs.Kinds.{create, myTid, myParentTid, yield, exit, send, receive, reply, awaitEvent, event}
 use Rattle.kernel.specs.Refusal.{refusalOf}
 use Rattle.kernel.specs.Decide.{refused, buffer, turnOf, ownWrite, decideAt, decide}
-use Rattle.rules.specs.Good.{goodTable}
 use Rattle.rules.specs.Facts.{Good}
 use Rattle.rules.proofs.Good.{good-facts, facts-good}
 use Rattle.step.specs.Step.{step, after}
 use Rattle.step.specs.Run.{Done, run, answers, tables}
 use Rattle.laws.specs.Movement.{movementOf, movementsFrom}
 use Rattle.laws.specs.Entries.{bareTask, bareTable, bareRequest, EntriesDecideNothing}
-use Rattle.laws.proofs.Choices.{through}
+use Rattle.kept.proofs.Choices.{through}
 use Rattle.laws.proofs.Lists.{map-set}
 use Rattle.laws.proofs.Steps.{step-sound}
 
@@ -170,12 +169,12 @@ trusting-bare : (t : Table) (r : Request) (len : ℕ) → trusting (bareTable t)
 unfolding trusting
 trusting-bare t r len = simp (through bareDecision, length-map, decide-bare)
 
-step-trusts : (t : Table) (r : Request) (len : ℕ) → goodTable t ≡ true → step t r len ≡ trusting t r len
+step-trusts : {n : ℕ} {t : Table} → Good n t → (r : Request) (len : ℕ) → step t r len ≡ trusting t r len
 unfolding step trusting
-step-trusts t r len good = rw good
+step-trusts {n} {t} good r len = rw (good .edition, facts-good n t good)
 
 step-bare : {n : ℕ} {t : Table} → Good n t → (r : Request) (len : ℕ) → bareDecision (step t r len) ≡ trusting (bareTable t) (bareRequest r) len
-step-bare {n} {t} good r len = ap bareDecision (step-trusts t r len (facts-good n t good)) ∙ sym (trusting-bare t r len)
+step-bare {n} {t} good r len = ap bareDecision (step-trusts good r len) ∙ sym (trusting-bare t r len)
 
 -- ALONG A RUN
 

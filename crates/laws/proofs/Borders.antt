@@ -12,14 +12,15 @@ use Rattle.task.specs.Task.{firstNegative}
 use Rattle.kernel.specs.declared.table.Table.{Table}
 use Rattle.kernel.specs.declared.table.Request.{Request}
 use Rattle.kernel.specs.declared.table.Decision.{Decision}
-use Rattle.kernel.specs.Numbers.{exitKind, eventKind, ownWriteKind, badAreas, badTable}
+use Rattle.kernel.specs.Numbers.{exitKind, eventKind, ownWriteKind, badAreas, badTable, badEdition}
+use Rattle.kernel.specs.Edition.{oneWaits}
 use Rattle.kernel.specs.Table.{activeSlot}
 use Rattle.kernel.specs.Moves.{firstReady, dispatched}
 use Rattle.kernel.specs.Turn.{settled}
 use Rattle.kernel.proofs.Every.{everyKind, everyMove}
 use Rattle.kernel.specs.Refusal.{refusalOf}
 use Rattle.kernel.specs.Decide.{turnOf, decideAt, decide}
-use Rattle.rules.specs.Fresh.{fresh, unusedTable}
+use Rattle.rules.specs.Fresh.{blankTable, unusedTable, fresh}
 use Rattle.rules.specs.Facts.{Good}
 use Rattle.rules.proofs.Fresh.{fresh-good, unused-broken}
 use Rattle.step.specs.Every.{numbers}
@@ -33,20 +34,21 @@ use Rattle.laws.proofs.Steps.{step-sound}
 abbrev leave : Request
 leave = ask exitKind []
 
--- the two refusals that come before a decision
-refused-first : (p : ℕ)
-    → (step (fresh slotCount p 0) leave (suc areasBytes) .answer .verdict ≡ badAreas)
+-- the three refusals that come before a decision
+refused-first :
+    (step (blankTable slotCount 257) leave (suc areasBytes) .answer .verdict ≡ badEdition)
+    × (step (unusedTable slotCount) leave (suc areasBytes) .answer .verdict ≡ badAreas)
     × (step (unusedTable slotCount) leave areasBytes .answer .verdict ≡ badTable)
 unfolding step
-refused-first p = (refl, rw (unused-broken slotCount))
+refused-first = (refl, refl, rw (unused-broken slotCount))
 
 module _ (p : ℕ) (low : p < priorities) where
   -- the table of most cases
   abbrev first : Table
-  first = fresh slotCount p 0
+  first = fresh slotCount oneWaits p 0
 
   first-good : Good slotCount first
-  first-good = fresh-good slotCount p 0 (omega arith) low
+  first-good = fresh-good slotCount oneWaits p 0 refl (omega arith) low
 
   idle-good : Good slotCount (idle p)
   unfolding idle
@@ -60,8 +62,9 @@ module _ (p : ℕ) (low : p < priorities) where
   unfolding refusedCases decide decideAt refusalOf turnOf everyKind everyMove settled dispatched firstReady activeSlot firstFrom
   given =
       rw (
-        refused-first p .0,
-        refused-first p .1,
+        refused-first .0,
+        refused-first .1,
+        refused-first .2,
         step-decides first (ask 0 []) areasBytes first-good refl,
         step-decides (idle p) leave areasBytes idle-good refl,
         step-decides first (ask eventKind (events ∷ [])) areasBytes first-good refl,

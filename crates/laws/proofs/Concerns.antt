@@ -25,7 +25,7 @@ use Rattle.kernel.proofs.Refusals.{fine}
 use Rattle.rules.specs.Facts.{Good}
 use Rattle.kept.proofs.Tasks.{codeAt}
 use Rattle.kept.proofs.Moves.{sender-head}
-use Rattle.laws.specs.View.{isSentTo, isReceivedFrom, isRepliedTo, isSignalled, waitsAt, isTurnedAway, othersLeft}
+use Rattle.laws.specs.View.{isSentTo, isReceivedFrom, isRepliedTo, waitsFor, isSignalled, waitsAt, isTurnedAway, othersLeft}
 
 -- a test that cannot pass
 pub fails : {b : Bool} → (b ≡ true → ⊥) → b ≡ false
@@ -114,16 +114,16 @@ module _ (t : Table) (r : Request) (s : ℕ) where
 
   pub signalled-facts : isSignalled t r s ≡ true → Signalled
   signalled-facts h =
-      let two = both-true _ _ h in
-      let one = both-true _ _ (two .0) in
+      let two = both-true _ (waitsFor t (r .arg0) s) h in
+      let one = both-true _ _ (two .1) in
       record {
-        kind = eqb-true (r .kind) eventKind (one .0);
-        state = eqb-true (codeAt t s) 6 (one .1);
-        event = eqb-true (awaited (taskAt t s .state)) (r .arg0) (two .1);
+        kind = eqb-true (r .kind) eventKind (two .0);
+        state = eqb-true (codeAt t s) 6 (one .0);
+        event = eqb-true (awaited (taskAt t s .state)) (r .arg0) (one .1);
       }
 
   facts-signalled : Signalled → isSignalled t r s ≡ true
-  facts-signalled f = true-both (true-both (eq-eqb _ _ (f .kind)) (eq-eqb _ 6 (f .state))) (eq-eqb _ _ (f .event))
+  facts-signalled f = true-both (eq-eqb _ _ (f .kind)) (true-both (eq-eqb _ 6 (f .state)) (eq-eqb _ _ (f .event)))
 
   turned-facts : isTurnedAway t r s ≡ true → TurnedAway
   turned-facts h =

@@ -34,7 +34,7 @@ use Rattle.step.specs.Run.{Done, run, answers, lastOf}
 use Rattle.laws.specs.Parties.{parties, Lands}
 use Rattle.laws.specs.View.{isEntry, isSentTo, isReceivedFrom, isRepliedTo, isSignalled, isTurnedAway, othersLeft, left, Steps}
 use Rattle.laws.specs.Cut.{isGiven, givings, copiesLess, isShort, lastIsShort, lastShown}
-use Rattle.laws.proofs.Choices.{through, choose-same}
+use Rattle.kept.proofs.Choices.{through, choose-same}
 use Rattle.laws.proofs.Landing.{step-lands}
 use Rattle.laws.proofs.View.{AllTold}
 use Rattle.laws.proofs.Concerns.{sent-facts, replied-facts, signalled-facts}

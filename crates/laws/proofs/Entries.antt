@@ -20,7 +20,7 @@ use Rattle.rules.proofs.Good.{good-facts}
 use Rattle.step.specs.Step.{step}
 use Rattle.laws.specs.View.{othersLeft, left, Ends, runs, waits}
 use Rattle.laws.specs.Entries.{Keeps, EntriesStay}
-use Rattle.laws.proofs.Choices.{through, choose-same}
+use Rattle.kept.proofs.Choices.{through, choose-same}
 use Rattle.laws.proofs.Effects.{step-cases, slots-step}
 use Rattle.laws.proofs.Turns.{New}
 use Rattle.laws.proofs.Sees.{entry-sees, entry-makes}

@@ -1,6 +1,7 @@
--- In which order those who are woken join the ready queues, and who runs next when a task has exited.
+-- In which order those who are woken join the ready queues, and who runs next. One argument for whatever is woken: a row joins behind those who
+-- are ready already, and then the next task is chosen.
 use Prim.Native.Nat.{ℕ, zero, suc, _≤_, _<_}
-use mathlib.Core.Path.{_≡_, refl, sym, ap, ap₂, _∙_}
+use mathlib.Core.Path.{_≡_, refl, sym, ap, _∙_}
 use mathlib.Core.Bool.{Bool, true}
 use mathlib.Core.List.{List, [], _∷_, _++_, append-nil, append-assoc}
 use native.Mathlib.Omega.{arith}
@@ -8,44 +9,36 @@ use native.Mathlib.Decide.{ℕ-discrete}
 use lib.ListN.{length, take, drop}
 use lib.Seq.{length-take-le, take-suc, getD-take, getD-set-same, getD-set-other}
 use lib.Dec.{ltb, eqb}
-use borrow.Author.Tests.{eq-eqb, ne-eqb, ltb-true, ltb-false}
+use borrow.Author.Tests.{eqb-true, eq-eqb, ne-eqb, ltb-true, ltb-false}
 use Rattle.queue.specs.declared.Queue.{Queue}
-use Rattle.queue.specs.Numbering.{readyQueue, sendQueue, queuesFor}
+use Rattle.queue.specs.Numbering.{readyQueue, queuesFor}
 use Rattle.queue.specs.Row.{placeAt, members, count, emptied, pushedRow, poppedRow}
-use Rattle.queue.specs.Rows.{noRow}
+use Rattle.queue.specs.Rows.{rowAt, noRow}
 use Rattle.queue.specs.Facts.{RowFacts}
 use Rattle.queue.proofs.Below.{first-below, first-equal}
+use Rattle.queue.proofs.Rules.{alone-row}
 use Rattle.queue.proofs.Turns.{pushed-members, popped-members}
 use Rattle.tid.specs.Sizes.{priorities}
-use Rattle.tid.specs.Tid.{slotOf}
+use Rattle.tid.specs.Tid.{markOf, slotOf}
 use Rattle.task.specs.declared.task.Result.{Result}
-use Rattle.task.specs.declared.task.Result.the-variants.{Nothing, Fault}
-use Rattle.task.specs.declared.task.State.the-variants.{Exited}
+use Rattle.task.specs.declared.task.State.the-variants.{Ready}
 use Rattle.task.specs.declared.task.Task.{Task}
+use Rattle.task.specs.Task.{noTask, taskAs}
 use Rattle.task.proofs.Tests.{chosen}
 use Rattle.kernel.specs.declared.table.Table.{Table}
 use Rattle.kernel.specs.declared.table.Effect.{Effect}
-use Rattle.kernel.specs.declared.table.Effect.the-variants.{Keep}
-use Rattle.kernel.specs.declared.table.Request.{Request}
-use Rattle.kernel.specs.Numbers.{exitKind}
-use Rattle.kernel.specs.Table.{slots, taskAt, queueAt, withQueue, activeSlot}
-use Rattle.kernel.specs.Moves.{wokenUpTo, wokenRow, firstReady, activated, dispatched}
-use Rattle.kernel.specs.Turn.{settled}
-use Rattle.kernel.specs.Kinds.{exit}
-use Rattle.kernel.specs.Decide.{turnOf}
-use Rattle.kernel.proofs.Refusals.{fine}
+use Rattle.kernel.specs.Table.{taskAt, queueAt, withQueue}
+use Rattle.kernel.specs.Moves.{queued, joined, woken, wokenUpTo, wokenRow, firstReady, activated, dispatched}
 use Rattle.kernel.proofs.Waking.{woken-shape}
 use Rattle.rules.specs.Good.{goodResult}
-use Rattle.rules.specs.Facts.{Waking, Good}
-use Rattle.kept.proofs.Moves.{vacated-kept}
-use Rattle.kept.proofs.Woken.{row-woken, one-joins}
-use Rattle.kept.proofs.Entries.{rejoined-stops, standers-used}
-use Rattle.step.specs.Step.{step}
-use Rattle.laws.specs.View.{isEntry, Steps}
-use Rattle.laws.specs.Doors.{ofPriority, readyAfterExit, firstAfterExit, TakesTurns}
-use Rattle.laws.proofs.Choices.{through}
-use Rattle.laws.proofs.View.{woken-as}
-use Rattle.laws.proofs.Sees.{enters, steps-good, step-entry}
+use Rattle.rules.specs.Facts.{standing, Waking, Rules}
+use Rattle.kept.proofs.Choices.{through}
+use Rattle.kept.proofs.Tasks.{isFree, free}
+use Rattle.kept.proofs.Moves.{slot-used, woken-other, waking-one, vacated-kept}
+use Rattle.kept.proofs.Woken.{row-woken, one-joins, others-woken}
+use Rattle.kept.proofs.Entries.{standers-used}
+use Rattle.laws.specs.Order.{ofPriority, readyWith, firstWith, TakesTurns}
+use Rattle.laws.proofs.Lists.{at-set}
 
 -- WHO HAS A PRIORITY
 
@@ -56,119 +49,166 @@ of-append t p [] ns = refl
 of-append t p (m ∷ ms) ns =
     rw (of-append t p ms ns) (sym (through (λ (l : List ℕ). l ++ ofPriority t p ns) (eqb (taskAt t (slotOf m) .priority) p) _ _))
 
--- a priority stands in a task's record, whatever the queues are
-of-tasks : (t : Table) (queues : List Queue) (p : ℕ) (ms : List ℕ)
-    → ofPriority (record { tasks = t .tasks; queues = queues }) p ms ≡ ofPriority t p ms
+-- in two tables every slot has the same priority
+abbrev pub SamePriorities : Table → Table → Type 0
+SamePriorities x t = (s : ℕ) → taskAt x s .priority ≡ taskAt t s .priority
+
+of-same : (x t : Table) → SamePriorities x t → (p : ℕ) (ms : List ℕ) → ofPriority x p ms ≡ ofPriority t p ms
 unfolding ofPriority
-of-tasks t queues p [] = refl
-of-tasks t queues p (m ∷ ms) = rw (of-tasks t queues p ms)
+of-same x t same p [] = refl
+of-same x t same p (m ∷ ms) = rw (same (slotOf m), of-same x t same p ms)
+
+-- nobody's changes while others are woken
+woken-priority : (t : Table) (mark : ℕ) (o : Result) → SamePriorities (woken t mark o) t
+unfolding woken joined queued
+woken-priority t mark o s =
+    elim (ℕ-discrete s (slotOf mark)) [
+      | yes same ↦
+          at-set (λ (x : Task). x .priority ≡ taskAt t s .priority) (t .tasks) (slotOf mark) s (taskAs Ready o (taskAt t (slotOf mark))) noTask
+          (ap (λ (k : ℕ). taskAt t k .priority) (sym same)) refl
+      | no other ↦ ap (λ (x : Task). x .priority) (woken-other t mark o other)
+    ]
+
+row-priority : (t : Table) (q : Queue) (o : Result) (i : ℕ) → SamePriorities (wokenUpTo t q o i) t
+unfolding wokenUpTo
+row-priority t q o zero s = refl
+row-priority t q o (suc i) s = woken-priority (wokenUpTo t q o i) (placeAt q i) o s ∙ row-priority t q o i s
 
 -- A ROW IS WOKEN
 
-module _ {n used a : ℕ} {w : ℕ → Bool} {t : Table} (f : Waking n used a w t) {q : Queue} (row : RowFacts n w q)
-    (o : Result) (good : goodResult used o ≡ true) (ours : (s : ℕ) → s < n → w s ≡ true → s < used) (p : ℕ) where
-  abbrev ready : Table → List ℕ
-  ready x = members (queueAt x (readyQueue p))
+-- In these queues those are ready who were in t and, behind them, the marks that have joined.
+pub record InTurn (t : Table) (joining : List ℕ) (queues : List Queue) : Type 0 where
+  pub rows : priorities ≤ length queues
+  pub fits : (p : ℕ) → p < priorities → let q = rowAt queues (readyQueue p) in q .len ≤ length (q .marks)
+  pub stands : (p : ℕ) → p < priorities → members (rowAt queues (readyQueue p)) ≡ readyWith t joining p
 
-  -- whoever stands at place i joins behind all others of its priority
-  next-joins : (i : ℕ) → i < q .len → ready (wokenUpTo t q o (suc i)) ≡ ready (wokenUpTo t q o i) ++ ofPriority t p (placeAt q i ∷ [])
-  unfolding ofPriority
-  next-joins i l =
-      let t′ = wokenUpTo t q o i in
-      let m = placeAt q i in
-      let s = slotOf m in
-      let (low, room, joined) = one-joins f row o good ours i l in
-      let kept : taskAt t′ s .priority ≡ taskAt t s .priority =
-      ap (λ (x : Task). x .priority) (woken-as t q o s (omega (arith, row .mark i l, f .size)) i) in
-      elim (ℕ-discrete (taskAt t s .priority) p) [
-        | yes e ↦
-            let own : taskAt t′ s .priority ≡ p = kept ∙ e in
-            let inside : p < length (t′ .queues) = omega (arith, woken-shape t q o i .1, f .lined .shaped .count) in
-            rw (eq-eqb (taskAt t s .priority) p e, joined, own, getD-set-same (t′ .queues) p (pushedRow (queueAt t′ p) m) noRow inside)
-            (pushed-members (queueAt t′ p) m (rw own at room))
-        | no ne ↦
-            rw (ne-eqb (taskAt t s .priority) p ne, joined, getD-set-other (t′ .queues) _ p _ noRow (λ e. ne (sym kept ∙ sym e)))
-            (sym (append-nil _))
-      ]
+module _ {n used a : ℕ} {w : ℕ → Bool} {x : Table} (f : Waking n used a w x) where
+  rules-rows : priorities ≤ length (x .queues)
+  rules-rows = omega (arith, f .lined .shaped .count)
 
-  -- so do all who stand before place i, in their order
-  up-to : (i : ℕ) → i ≤ q .len → ready (wokenUpTo t q o i) ≡ ready t ++ ofPriority t p (take i (q .marks))
-  unfolding wokenUpTo ofPriority
-  up-to zero h = sym (append-nil _)
-  up-to (suc i) h =
-      let inside : i < length (q .marks) = omega (arith, row .fits) in
-      rw (next-joins i (omega arith), up-to i (omega arith), take-suc (q .marks) i 0, of-append, append-assoc)
+  rules-fits : (p : ℕ) → p < priorities → let q = queueAt x (readyQueue p) in q .len ≤ length (q .marks)
+  rules-fits p low = f .lined .holds .row p (omega (arith, rules-rows)) .fits
 
-  -- they join in the order of the row, behind those who are ready already
-  row-order : ready (wokenRow t q o) ≡ ready t ++ ofPriority t p (members q)
-  row-order = let all : count q ≡ q .len = omega (arith, row .fits) in rw all (up-to (q .len) (omega arith))
+  module _ {q : Queue} (row : RowFacts n w q) (o : Result) (good : goodResult used o ≡ true)
+      (ours : (s : ℕ) → s < n → w s ≡ true → s < used) where
+    -- whoever stands at place i joins behind all others of its priority
+    next-joins : (p i : ℕ) → i < q .len
+        → members (queueAt (wokenUpTo x q o (suc i)) (readyQueue p))
+        ≡ members (queueAt (wokenUpTo x q o i) (readyQueue p)) ++ ofPriority x p (placeAt q i ∷ [])
+    unfolding ofPriority
+    next-joins p i l =
+        let t′ = wokenUpTo x q o i in
+        let m = placeAt q i in
+        let s = slotOf m in
+        let (low, room, joined) = one-joins f row o good ours i l in
+        let kept : taskAt t′ s .priority ≡ taskAt x s .priority = row-priority x q o i s in
+        elim (ℕ-discrete (taskAt x s .priority) p) [
+          | yes e ↦
+              let own : taskAt t′ s .priority ≡ p = kept ∙ e in
+              let inside : p < length (t′ .queues) = omega (arith, woken-shape x q o i .1, f .lined .shaped .count) in
+              rw (eq-eqb (taskAt x s .priority) p e, joined, own, getD-set-same (t′ .queues) p (pushedRow (queueAt t′ p) m) noRow inside)
+              (pushed-members (queueAt t′ p) m (rw own at room))
+          | no ne ↦
+              rw (ne-eqb (taskAt x s .priority) p ne, joined, getD-set-other (t′ .queues) _ p _ noRow (λ e. ne (sym kept ∙ sym e)))
+              (sym (append-nil _))
+        ]
+
+    -- so do all who stand before place i, in their order
+    up-to : (p i : ℕ) → i ≤ q .len
+        → members (queueAt (wokenUpTo x q o i) (readyQueue p)) ≡ members (queueAt x (readyQueue p)) ++ ofPriority x p (take i (q .marks))
+    unfolding wokenUpTo ofPriority
+    up-to p zero h = sym (append-nil _)
+    up-to p (suc i) h =
+        let inside : i < length (q .marks) = omega (arith, row .fits) in
+        rw (next-joins p i (omega arith), up-to p i (omega arith), take-suc (q .marks) i 0, of-append, append-assoc)
+
+    -- they join in the order of the row, behind those who are ready already
+    pub row-joins : {t : Table} {joining : List ℕ} → SamePriorities x t → InTurn t joining (x .queues)
+        → InTurn t (joining ++ members q) (wokenRow x q o .queues)
+    unfolding readyWith
+    row-joins {t} {joining} same now =
+        let all : count q ≡ q .len = omega (arith, row .fits) in
+        let woke = row-woken f row o good ours in
+        record {
+          rows = omega (arith, woke .lined .shaped .count);
+          fits = λ p low. woke .lined .holds .row p (omega (arith, woke .lined .shaped .count)) .fits;
+          stands = λ p low.
+              rw (all, up-to p (q .len) (omega arith), now .stands p low, of-same x t same p (members q), of-append t p joining (members q), append-assoc);
+        }
+
+-- a task that stands in no queue is woken alone
+pub one-joins-last : {n used a : ℕ} {x : Table} → Rules n used a x → (s : ℕ) → isFree (taskAt x s .state) ≡ true → (o : Result) → goodResult used o ≡ true
+    → {t : Table} {joining : List ℕ} → SamePriorities x t → InTurn t joining (x .queues)
+    → InTurn t (joining ++ markOf s ∷ []) (woken x (markOf s) o .queues)
+unfolding wokenUpTo pushedRow
+one-joins-last {n} {used} {x = x} f s is-free o good =
+    let l : s < used = slot-used f (free n (taskAt x s) is-free .is-used) in
+    row-joins (waking-one f s is-free) (alone-row n s (omega (arith, f .tasks .fits))) o good (λ j _ e. omega (arith, eqb-true j s e))
+
+-- A queue that is no ready queue is woken whole.
+module _ {n used a : ℕ} {t : Table} (f : Rules n used a t) (k : ℕ) (other : priorities ≤ k) (l : k < queuesFor n)
+    (o : Result) (good : goodResult used o ≡ true) where
+  abbrev left : Table
+  left = withQueue t k (emptied (queueAt t k))
+
+  gone : Waking n used a (λ s. eqb (standing n (taskAt t s)) k) left
+  gone = vacated-kept f k l
+
+  row : RowFacts n (λ s. eqb (standing n (taskAt t s)) k) (queueAt t k)
+  row = f .lined .holds .row k (omega (arith, f .lined .shaped .count))
+
+  pub queue-woken : Rules n used a (wokenRow left (queueAt t k) o)
+  queue-woken = row-woken gone row o good (standers-used f k l)
+
+  -- who stands in no queue is as before
+  pub queue-aside : (s : ℕ) → isFree (taskAt t s .state) ≡ true → taskAt (wokenRow left (queueAt t k) o) s ≡ taskAt t s
+  queue-aside s is-free = others-woken gone row o s (rw (free n (taskAt t s) is-free .nowhere) (ne-eqb (queuesFor n) k (omega arith)))
+
+  pub queue-priority : SamePriorities (wokenRow left (queueAt t k) o) t
+  queue-priority = row-priority left (queueAt t k) o (count (queueAt t k))
+
+  none-joined : InTurn t [] (left .queues)
+  unfolding readyWith ofPriority
+  none-joined =
+      record {
+        rows = rules-rows gone;
+        fits = rules-fits gone;
+        stands = λ p low. rw (getD-set-other (t .queues) k p (emptied (queueAt t k)) noRow (λ e. omega arith)) (sym (append-nil _));
+      }
+
+  pub queue-joins : InTurn t (members (queueAt t k)) (wokenRow left (queueAt t k) o .queues)
+  queue-joins = row-joins gone row o good (standers-used f k l) (λ s. refl) none-joined
 
 -- THE NEXT TASK IS CHOSEN
 
--- in table x those are ready who are to be when the active task of t has exited
-module _ (t x : Table) (rows : priorities ≤ length (x .queues))
-    (stands : (p : ℕ) → p < priorities → let q = queueAt x (readyQueue p) in (q .len ≤ length (q .marks)) × (members q ≡ readyAfterExit t p)) where
+module _ {t : Table} {joining : List ℕ} (x : Table) (now : InTurn t joining (x .queues)) where
   -- the first queue that is not empty is the same
-  same-first : firstReady x ≡ firstAfterExit t
+  same-first : firstReady x ≡ firstWith t joining
   unfolding firstReady
   same-first =
-      first-equal priorities _ _
-      (λ p low. let (fits, same) = stands p low in ap (ltb 0) (sym (length-take-le _ _ fits) ∙ ap length same))
+      first-equal priorities _ _ (λ p low. ap (ltb 0) (sym (length-take-le _ _ (now .fits p low)) ∙ ap length (now .stands p low)))
 
-  takes-turns : (e : Effect) → TakesTurns t (dispatched e x)
+  pub takes-turns : (e : Effect) → TakesTurns t joining (dispatched e x)
   unfolding dispatched firstReady activated
   takes-turns e =
       let p = firstReady x in
       let q = queueAt x (readyQueue p) in
       let first = first-below priorities (λ p. ltb 0 (queueAt x (readyQueue p) .len)) in
-      chosen (TakesTurns t) (ltb p priorities)
+      chosen (TakesTurns t joining) (ltb p priorities)
       (λ found.
       let low : p < priorities = ltb-true p priorities found in
-      let (fits, same) = stands p low in
+      let same = now .stands p low in
       record {
         next = rw (← same-first, found, ← same, getD-take (q .len) (q .marks) 0 0 (ltb-true 0 (q .len) (first .passes low)));
         ready = λ k near. elim (ℕ-discrete k p) [
           | yes e ↦
-              rw (e, ← same-first, eq-eqb p p refl, getD-set-same (x .queues) p (poppedRow q) noRow (omega arith), popped-members q fits)
+              rw (e, ← same-first, eq-eqb p p refl, getD-set-same (x .queues) p (poppedRow q) noRow (omega (arith, now .rows)), popped-members q (now .fits p low))
               (ap (drop 1) same)
-          | no ne ↦ rw (← same-first, ne-eqb k p ne, getD-set-other (x .queues) p k (poppedRow q) noRow ne) (stands k near .1)
+          | no ne ↦ rw (← same-first, ne-eqb k p ne, getD-set-other (x .queues) p k (poppedRow q) noRow ne) (now .stands k near)
         ];
       })
       (λ none.
       record {
         next = rw (← same-first, none);
-        ready = λ k near. rw (← same-first, ne-eqb k p (λ e. omega (arith, ltb-false p priorities none))) (stands k near .1);
+        ready = λ k near. rw (← same-first, ne-eqb k p (λ e. omega (arith, ltb-false p priorities none))) (now .stands k near);
       })
-
--- AN EXIT
-
--- the send queue of the one that exits is woken whole; that it stops leaves all queues as they are
-exit-turns : {n : ℕ} {t : Table} → Good n t → activeSlot t < slots t → TakesTurns t (settled (activeSlot t) (exit t (activeSlot t)))
-unfolding exit settled readyAfterExit
-exit-turns {n} {t} good here =
-    let f = good .rules in
-    let a = activeSlot t in
-    let k = sendQueue a in
-    let q = queueAt t k in
-    let x = withQueue t k (emptied q) in
-    let l : k < queuesFor n = omega (arith, f .size) in
-    let row = f .lined .holds .row k (omega (arith, f .lined .shaped .count)) in
-    let gone = vacated-kept f k l in
-    let ours = standers-used f k l in
-    let woke = row-woken gone row (Fault 2) refl ours in
-    let rows = woke .lined .shaped .count in
-    rw (rejoined-stops (wokenRow x q (Fault 2)) a Exited Nothing (omega (arith, woke .size, f .size)) refl)
-    (takes-turns t _ (omega arith)
-    (λ p low. (
-      woke .lined .holds .row p (omega arith) .fits,
-      row-order gone row (Fault 2) refl ours p
-          ∙ ap₂ _++_ (ap members (getD-set-other (t .queues) k p (emptied q) noRow (λ e. omega arith))) (of-tasks t (x .queues) p (members q)),
-    ))
-    Keep)
-
-pub exit-order : {n : ℕ} {t : Table} {xs : List ℕ} → Steps n t xs → (r : Request) → isEntry t r ≡ true → r .kind ≡ exitKind
-    → TakesTurns t (step t r (length xs))
-unfolding turnOf
-exit-order {n} {t} steps r entry kind =
-    let here : activeSlot t < slots t = fine (slots t) (activeSlot t) r (enters t r entry .0) .caller (λ e. omega arith) in
-    rw (step-entry steps r entry, kind) (exit-turns (steps-good steps) here)

@@ -1,5 +1,5 @@
 -- What the work of each kind leaves: of the caller's record, of the others', and of the ready queues.
-use Prim.Native.Nat.{ℕ, _≤_, _<_}
+use Prim.Native.Nat.{ℕ, _+_, _≤_, _<_}
 use mathlib.Core.Path.{_≡_, refl, sym, ap, _∙_}
 use mathlib.Core.Logic.{_≢_, ⊎-elim}
 use mathlib.Core.Bool.{Bool, true, false, not, _&&_}
@@ -7,7 +7,7 @@ use native.Mathlib.Omega.{arith}
 use native.Mathlib.Decide.{ℕ-discrete}
 use lib.ListN.{length, length-set}
 use lib.Seq.{getD-set-same, getD-set-other}
-use lib.Dec.{ltb, leb, eqb}
+use lib.Dec.{leb, eqb}
 use borrow.Author.Tests.{eqb-true, eqb-false, eq-eqb, ne-eqb, leb-false, lt-ltb, not-true, not-false}
 use Rattle.queue.specs.Choose.{choose}
 use Rattle.queue.specs.Numbering.{places, readyQueue, eventQueue, sendQueue, queuesFor}
@@ -33,6 +33,7 @@ use Rattle.kernel.specs.declared.table.Request.{Request}
 use Rattle.kernel.specs.declared.table.Effect.the-variants.{Keep}
 use Rattle.kernel.specs.declared.table.Turn.{Turn}
 use Rattle.kernel.specs.Numbers.{createKind, myTidKind, myParentTidKind, yieldKind, exitKind, sendKind, receiveKind, replyKind, awaitEventKind, eventKind}
+use Rattle.kernel.specs.Edition.{mayWait}
 use Rattle.kernel.specs.Table.{slots, taskAt, queueAt, withQueue, activeSlot, usedSlots}
 use Rattle.kernel.specs.Moves.{queued}
 use Rattle.kernel.specs.Kinds.{alive, create, myTid, myParentTid, yield, exit, send, receive, reply, awaitEvent, event}
@@ -261,7 +262,7 @@ module _ {n : ℕ} {t : Table} (good : Good n t) (r : Request) where
     await-leaves kind e =
         let same = plain awaitEventKind kind (λ e. omega arith) (λ e. omega arith) (λ e. omega arith) (λ e. omega arith) (λ e. omega arith) in
         chosen (Leaves n t r) (leb events e) (λ _. rests (λ s _. same s))
-        (λ _. chosen (Leaves n t r) (ltb 0 (queueAt t (eventQueue e) .len)) (λ _. rests (λ s _. same s))
+        (λ _. chosen (Leaves n t r) (not (mayWait (t .edition) (queueAt t (eventQueue e) .len + 1))) (λ _. rests (λ s _. same s))
         (λ _. aside refl refl (λ p low. getD-set-other (t .queues) (eventQueue e) (readyQueue p) _ noRow (λ e. omega arith)) (λ s _. same s)))
 
   -- who stands in the queue of an event waits for it

@@ -35,7 +35,7 @@ use Rattle.kernel.specs.Moves.{leftAs, queued, joined, woken, wokenUpTo, wokenR
 use Rattle.kernel.proofs.Waking.{woken-shape}
 use Rattle.kept.proofs.Moves.{woken-other}
 use Rattle.laws.specs.View.{Ends, runs, waits}
-use Rattle.laws.proofs.Choices.{through, choose-same}
+use Rattle.kept.proofs.Choices.{through, choose-same}
 use Rattle.laws.proofs.Lists.{at-set}
 
 -- WHO STANDS AT THE HEADS OF THE READY QUEUES
@@ -104,7 +104,7 @@ module _ (t : Table) (q : Queue) (o : Result) (s : ℕ) where
 
   module _ (below : s < slots t) where
     -- one who is woken keeps its priority, its parent and its entry number
-    pub woken-as : (i : ℕ) → taskAs Ready o (taskAt (wokenUpTo t q o i) s) ≡ taskAs Ready o (taskAt t s)
+    woken-as : (i : ℕ) → taskAs Ready o (taskAt (wokenUpTo t q o i) s) ≡ taskAs Ready o (taskAt t s)
     unfolding wokenUpTo
     woken-as zero = refl
     woken-as (suc i) =

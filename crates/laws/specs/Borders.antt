@@ -10,7 +10,8 @@ use Rattle.kernel.specs.declared.table.Table.{Table}
 use Rattle.kernel.specs.declared.table.Request.{Request}
 use Rattle.kernel.specs.Numbers.{exitKind, eventKind, ownWriteKind}
 use Rattle.rules.specs.Good.{goodResult}
-use Rattle.rules.specs.Fresh.{unusedTable, fresh}
+use Rattle.kernel.specs.Edition.{oneWaits}
+use Rattle.rules.specs.Fresh.{blankTable, unusedTable, fresh}
 use Rattle.step.specs.Every.{numbers}
 use Rattle.step.specs.Step.{step}
 use Rattle.laws.specs.FirstRun.{areasBytes, ask}
@@ -27,13 +28,15 @@ case t r len = record { table = t; request = r; areas = len }
 
 -- a kernel whose one task, of priority p, has exited
 unfoldable pub idle : ℕ → Table
-idle p = step (fresh slotCount p 0) (ask exitKind []) areasBytes .table
+idle p = step (fresh slotCount oneWaits p 0) (ask exitKind []) areasBytes .table
 
--- areas with a byte too many; a table that breaks a rule; no kind; nobody active; no event; a write past the area
+-- an edition that is none; areas with a byte too many; a table that breaks a rule; no kind; nobody active; no event; a write past the area.
+-- Each of the first three has all that the next one has, too
 unfoldable pub refusedCases : ℕ → List Case
 refusedCases p =
-    let t = fresh slotCount p 0 in
-    case t (ask exitKind []) (suc areasBytes)
+    let t = fresh slotCount oneWaits p 0 in
+    case (blankTable slotCount 257) (ask exitKind []) (suc areasBytes)
+    ∷ case (unusedTable slotCount) (ask exitKind []) (suc areasBytes)
     ∷ case (unusedTable slotCount) (ask exitKind []) areasBytes
     ∷ case t (ask 0 []) areasBytes
     ∷ case (idle p) (ask exitKind []) areasBytes

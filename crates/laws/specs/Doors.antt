@@ -3,13 +3,11 @@
 use Prim.Native.Nat.{ℕ, _<_}
 use mathlib.Core.Path.{_≡_}
 use mathlib.Core.Bool.{true}
-use mathlib.Core.List.{List, [], _∷_, _++_}
-use lib.ListN.{length, getD, drop}
-use lib.Dec.{ltb, eqb}
-use Rattle.tid.specs.Sizes.{priorities}
-use Rattle.tid.specs.Tid.{slotOf, tidOf}
-use Rattle.queue.specs.Choose.{choose, firstBelow}
-use Rattle.queue.specs.Numbering.{readyQueue, sendQueue}
+use mathlib.Core.List.{List}
+use lib.ListN.{length}
+use lib.Dec.{eqb}
+use Rattle.queue.specs.Choose.{choose}
+use Rattle.queue.specs.Numbering.{sendQueue}
 use Rattle.queue.specs.Row.{members}
 use Rattle.task.specs.declared.task.Result.the-variants.{Nothing, Fault}
 use Rattle.task.specs.declared.task.State.the-variants.{Ready, Exited}
@@ -17,13 +15,13 @@ use Rattle.task.specs.declared.task.Task.{Task}
 use Rattle.task.specs.Task.{awaited, isReceiveBlocked, taskAs}
 use Rattle.kernel.specs.declared.table.Table.{Table}
 use Rattle.kernel.specs.declared.table.Request.{Request}
-use Rattle.kernel.specs.declared.table.Decision.{Decision}
 use Rattle.kernel.specs.Numbers.{exitKind}
 use Rattle.kernel.specs.Table.{taskAt, queueAt, activeSlot, usedSlots}
 use Rattle.kernel.specs.Kinds.{alive}
 use Rattle.kernel.specs.Decide.{activeTid}
 use Rattle.step.specs.Step.{step}
 use Rattle.step.specs.Run.{run, tableAfter}
+use Rattle.laws.specs.Order.{TakesTurns}
 use Rattle.laws.specs.View.{isEntry, waitsAt, Ends, Steps}
 
 -- Along any run no task is receive-blocked at a task that does not exist.
@@ -49,31 +47,9 @@ ExitTells =
     (n : ℕ) (t : Table) (r : Request) (xs : List ℕ) (s : ℕ) → Steps n t xs → isEntry t r ≡ true → r .kind ≡ exitKind → s < usedSlots t
     → Ends s (leftByExit t s) (step t r (length xs))
 
--- IN WHICH ORDER.
-
--- those of a list of marks whose tasks have a priority, in its order
-unfoldable pub ofPriority : Table → ℕ → List ℕ → List ℕ
-ofPriority t p [] = []
-ofPriority t p (m ∷ ms) = choose (eqb (taskAt t (slotOf m) .priority) p) (m ∷ ofPriority t p ms) (ofPriority t p ms)
-
--- who is ready at a priority when a task has exited: those who stood there, and behind them those who were queued at the one that exits
-unfoldable pub readyAfterExit : Table → ℕ → List ℕ
-readyAfterExit t p = members (queueAt t (readyQueue p)) ++ ofPriority t p (members (queueAt t (sendQueue (activeSlot t))))
-
--- the first priority at which somebody is ready then
-abbrev pub firstAfterExit : Table → ℕ
-firstAfterExit t = firstBelow priorities (λ p. ltb 0 (length (readyAfterExit t p)))
-
--- the first of them runs, and the others stand as they did
-pub record TakesTurns (t : Table) (d : Decision) : Type 0 where
-  pub next : let p = firstAfterExit t in
-      d .answer .next ≡ choose (ltb p priorities) (tidOf (slotOf (getD (readyAfterExit t p) 0 0))) 0
-  pub ready : (p : ℕ) → p < priorities
-      → members (queueAt (d .table) (readyQueue p)) ≡ choose (eqb p (firstAfterExit t)) (drop 1 (readyAfterExit t p)) (readyAfterExit t p)
-
 -- Who was queued joins in the order of the queue, each behind those who are ready at its own priority, before the next task is chosen.
 -- Ruled out: senders that join in another order or ahead of others, and one that exits and is ready all the same.
 abbrev pub ExitKeepsOrder : Type 0
 ExitKeepsOrder =
     (n : ℕ) (t : Table) (r : Request) (xs : List ℕ) → Steps n t xs → isEntry t r ≡ true → r .kind ≡ exitKind
-    → TakesTurns t (step t r (length xs))
+    → TakesTurns t (members (queueAt t (sendQueue (activeSlot t)))) (step t r (length xs))

@@ -42,7 +42,7 @@ abbrev pub bareTask : Task → Task
 bareTask x = record { state = x .state; priority = x .priority; parent = x .parent; entry = 0; result = x .result }
 
 abbrev pub bareTable : Table → Table
-bareTable t = record { tasks = map bareTask (t .tasks); queues = t .queues }
+bareTable t = record { edition = t .edition; tasks = map bareTask (t .tasks); queues = t .queues }
 
 abbrev pub bareRequest : Request → Request
 bareRequest r =

@@ -55,9 +55,13 @@ abbrev pub isRepliedTo : Table → Request → ℕ → Bool
 isRepliedTo t r s =
     eqb (r .kind) replyKind && eqb (r .arg0) (tidOf s) && isReplyBlocked (taskAt t s .state) && goodBuffer (buffer (r .arg1) (r .arg2))
 
+-- whether it waits for an event
+abbrev pub waitsFor : Table → ℕ → ℕ → Bool
+waitsFor t e s = isEventBlocked (taskAt t s .state) && eqb (awaited (taskAt t s .state)) e
+
 -- its event happens
 abbrev pub isSignalled : Table → Request → ℕ → Bool
-isSignalled t r s = eqb (r .kind) eventKind && isEventBlocked (taskAt t s .state) && eqb (awaited (taskAt t s .state)) (r .arg0)
+isSignalled t r s = eqb (r .kind) eventKind && waitsFor t (r .arg0) s
 
 -- whether it sends to a tid, and its message is not yet received
 abbrev pub waitsAt : Table → ℕ → ℕ → Bool

@@ -1,13 +1,16 @@
 -- Blocks, each stepped from where the one before it ended, are one run.
 use Prim.Native.Nat.{ℕ, zero, suc, _+_, _*_, _/_, _%_, _≤_}
 use mathlib.Core.Path.{_≡_, refl, sym, ap, _∙_}
-use mathlib.Core.Bool.{Bool}
+use mathlib.Core.Bool.{Bool, true}
 use mathlib.Core.List.{List, [], _∷_, _++_, flatten, append-nil, append-assoc}
 use native.Mathlib.Omega.{arith}
 use native.Mathlib.Nat.{add-zero, add-suc}
 use lib.ListN.{length, drop, length-append, length-drop}
 use lib.Seq.{take-append-le, drop-append-le, drop-append-add}
 use borrow.Author.Tests.{eq-eqb}
+use Rattle.tid.specs.Sizes.{slotCount}
+use Rattle.kernel.specs.Edition.{isEdition}
+use Rattle.rules.specs.Fresh.{fresh}
 use Rattle.step.specs.Every.{Every, none, more}
 use Rattle.step.specs.Run.{run, lastOf}
 use Rattle.image.specs.Call.{requestLength}
@@ -67,27 +70,36 @@ printed-ran wide b areas (bytes ∷ blocks) last (more whole rest) =
     (ap (λ (text : List ℕ). s .text ++ text) (printed-ran wide (from s) (s .areas) blocks last rest)
     ∙ sym (ap (λ (s : Standing). s .text) (showed-append wide b areas bytes (flatten blocks ++ last) whole)))
 
+-- the block that a fresh kernel of an edition starts from
+abbrev firstBlock : ℕ → Block
+firstBlock ed = record { table = fresh slotCount ed firstPriority firstEntry; step = 1; end = 0 }
+
+-- a start in an edition is not refused
+begins : (ed : ℕ) → isEdition ed ≡ true → freshBlock ed firstPriority firstEntry ≡ firstBlock ed
+begins ed known = rw known
+
 pub printedIsRun : PrintedIsRun
-printedIsRun wide blocks last whole = printed-ran wide (freshBlock firstPriority firstEntry) firstAreas blocks last whole
+printedIsRun wide ed blocks last known whole = rw (begins ed known) (printed-ran wide (firstBlock ed) firstAreas blocks last whole)
 
 -- where a program stands that has read nothing
-pub reached-none : Reached [] (freshBlock firstPriority firstEntry .table) (freshBlock firstPriority firstEntry .step) firstAreas
+pub reached-none : (ed : ℕ) → isEdition ed ≡ true
+    → let b = freshBlock ed firstPriority firstEntry in Reached ed [] (b .table) (b .step) firstAreas
 unfolding requestsIn run lastOf numberAfter
-reached-none = record { whole = refl; stands = refl; counted = refl; left = refl }
+reached-none ed known = record { whole = refl; stands = ap (λ (b : Block). b .table) (begins ed known); counted = refl; left = refl }
 
 -- where it stands after an input
-abbrev standing : Bool → List ℕ → Standing
-standing wide input = ran wide (freshBlock firstPriority firstEntry) firstAreas (requests input)
+abbrev standing : Bool → ℕ → List ℕ → Standing
+standing wide ed input = ran wide (firstBlock ed) firstAreas (requests input)
 
 -- where it stands after bytes more, with their lines
-module _ (wide : Bool) (b : Block) {input areas : List ℕ} (at : Reached input (b .table) (b .step) areas) (bytes : List ℕ) where
-  shown-from : showed wide (freshBlock firstPriority firstEntry) firstAreas (input ++ bytes) ≡ joined (standing wide input) (showed wide b areas bytes)
+module _ (wide : Bool) (b : Block) {ed : ℕ} {input areas : List ℕ} (at : Reached ed input (b .table) (b .step) areas) (bytes : List ℕ) where
+  shown-from : showed wide (firstBlock ed) firstAreas (input ++ bytes) ≡ joined (standing wide ed input) (showed wide b areas bytes)
   shown-from =
-      showed-append wide (freshBlock firstPriority firstEntry) firstAreas input bytes (at .whole)
-      ∙ (λ i. joined (standing wide input) (showed wide (record { table = sym (at .stands) i; step = sym (at .counted) i; end = 0 }) (sym (at .left) i) bytes))
+      showed-append wide (firstBlock ed) firstAreas input bytes (at .whole)
+      ∙ (λ i. joined (standing wide ed input) (showed wide (record { table = sym (at .stands) i; step = sym (at .counted) i; end = 0 }) (sym (at .left) i) bytes))
 
   pub reached-more : {first b′ : Block} {before out areas′ : List ℕ} → Whole bytes → Ran (showed wide b areas bytes) first before b′ areas′ out
-      → Reached (input ++ bytes) (b′ .table) (b′ .step) areas′
+      → Reached ed (input ++ bytes) (b′ .table) (b′ .step) areas′
   reached-more whole made =
       record {
         whole = omega (arith, at .whole, length-append input bytes);
@@ -96,5 +108,5 @@ module _ (wide : Bool) (b : Block) {input areas : List ℕ} (at : Reached input 
         left = made .changed ∙ sym (ap (λ (s : Standing). s .areas) shown-from);
       }
 
-  pub lines-more : linesFrom wide 1 (stepsOf input) ++ showed wide b areas bytes .text ≡ linesOf wide (input ++ bytes)
+  pub lines-more : linesFrom wide 1 (stepsOf ed input) ++ showed wide b areas bytes .text ≡ linesOf wide ed (input ++ bytes)
   lines-more = sym (ap (λ (s : Standing). s .text) shown-from)

@@ -52,9 +52,9 @@ requestsIn bytes (suc k) = requestsIn bytes k ++ (requestFrom (recordAt requestL
 abbrev pub requests : List ℕ → List Request
 requests bytes = requestsIn bytes (length bytes / requestLength)
 
--- a fresh kernel, whose first step is number 1; a priority that is none gives one where nobody is
-abbrev pub freshBlock : ℕ → ℕ → Block
-freshBlock priority entry = record { table = started slotCount priority entry .table; step = 1; end = 0 }
+-- a fresh kernel, whose first step is number 1; an edition or a priority that is none gives one where nobody is
+abbrev pub freshBlock : ℕ → ℕ → ℕ → Block
+freshBlock ed priority entry = record { table = started slotCount ed priority entry .table; step = 1; end = 0 }
 
 -- where a run stands after requests, with no line before theirs
 abbrev pub ran : Bool → Block → List ℕ → List Request → Standing

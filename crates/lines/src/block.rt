@@ -27,10 +27,10 @@ pub struct Block {
 }
 
 // Where the run of a fresh kernel starts.
-pub fn fresh_block(priority: u32, entry: u32) -> Block
-    ensures { λ r. ⌜ r ≡ freshBlock priority entry ⌝ }
+pub fn fresh_block(edition: u32, priority: u32, entry: u32) -> Block
+    ensures { λ r. ⌜ r ≡ freshBlock edition priority entry ⌝ }
 {
-    let started = start(priority, entry);
+    let started = start(edition, priority, entry);
     let table = started.table;
     Block {
         table,

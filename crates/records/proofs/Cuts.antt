@@ -20,9 +20,9 @@ cut-needs-value (Value from true v) = (omega arith, λ _. refl)
 cut-needs-value (Value from false v) = (omega arith, λ _. refl)
 cut-needs-value (Fault f) = (omega arith, λ e. absurd (omega arith))
 
-pub cut-in : (n : ℕ) (b : List ℕ) (s : ℕ) → isImage n b ≡ true → s < n
+pub cut-in : (n ed : ℕ) (b : List ℕ) (s : ℕ) → isImage n ed b ≡ true → s < n
     → (byteAt b s atCut ≤ 1) × (byteAt b s atCut ≡ 1 → byteAt b s atResult ≡ 1)
-cut-in n b s image l =
-    let f = write-back n image .0 .rules in
-    let records = read-records n b image in
-    rw (kind-told f records s l, cut-told f records s l) (cut-needs-value (taskAt (tableOf n b) s .result))
+cut-in n ed b s image l =
+    let f = write-back n ed image .0 .rules in
+    let records = read-records n ed b image in
+    rw (kind-told f records s l, cut-told f records s l) (cut-needs-value (taskAt (tableOf n ed b) s .result))

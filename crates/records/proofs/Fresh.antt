@@ -8,7 +8,7 @@ use Rattle.queue.specs.Numbering.{queuesFor}
 use Rattle.task.specs.Task.{noTask}
 use Rattle.task.specs.Standing.{queueOf}
 use Rattle.kernel.specs.Table.{taskAt}
-use Rattle.rules.specs.Fresh.{unusedTable, firstTask, fresh}
+use Rattle.rules.specs.Fresh.{blankTable, firstTask, fresh}
 use Rattle.rules.proofs.Fresh.{all-same}
 use Rattle.image.specs.Bytes.{recordAt}
 use Rattle.image.specs.Record.{recordLength, fields, taskRecord, recordOf}
@@ -28,23 +28,23 @@ blank-record n s h =
     (λ i l. let near : i < recordLength = omega arith in
     rw (getD-take, getD-drop) (all-same (n * recordLength) (s * recordLength + i) zero ∙ sym (all-same recordLength i zero)))
 
-unused-records : (n : ℕ) → Records n (recordOf (unusedTable n)) (replicate (n * recordLength) 0)
+blank-records : (n ed : ℕ) → Records n (recordOf (blankTable n ed)) (replicate (n * recordLength) 0)
 unfolding taskRecord
-unused-records n =
+blank-records n ed =
     record {
       size = length-replicate (n * recordLength) 0;
       each = λ s h. blank-record n s h ∙ rw (all-same n s noTask);
     }
 
-pub fresh-image : (n p e : ℕ) → 1 ≤ n → withRecord (replicate (n * recordLength) 0) 0 (fields (firstTask p e) 0) ≡ imageOf (fresh n p e)
+pub fresh-image : (n ed p e : ℕ) → 1 ≤ n → withRecord (replicate (n * recordLength) 0) 0 (fields (firstTask p e) 0) ≡ imageOf (fresh n ed p e)
 unfolding queueOf
-fresh-image n p e h =
-    let t = unusedTable n in
-    let t′ = fresh n p e in
+fresh-image n ed p e h =
+    let t = blankTable n ed in
+    let t′ = fresh n ed p e in
     let size = length-replicate n noTask in
     let size′ = length-set (t .tasks) 0 (firstTask p e) ∙ size in
     let here : taskAt t′ 0 ≡ firstTask p e = getD-set-same (t .tasks) 0 (firstTask p e) noTask (omega arith) in
     records-image n t′ _ size′
-    (one-written (unused-records n) t′ 0 (firstTask p e) 0 (omega arith) refl here
+    (one-written (blank-records n ed) t′ 0 (firstTask p e) 0 (omega arith) refl here
     (stored-none n t′ 0 {k = queuesFor n} size′ (rw here) (omega arith))
     (λ i l ne. same-record n t t′ size size′ i (getD-set-other (t .tasks) 0 i (firstTask p e) noTask ne) (λ k _ _. refl)))

@@ -66,7 +66,7 @@ module _ {n : ℕ} {t : Table} {code at key k : ℕ} (q : Told n t code at key k
   stands-told : queuesAt code at key b i ≡ eqb (standing n (taskAt t i)) k
   stands-told = rw (← byte-in b i atState (omega arith), ← byte-in b i at (q .near), own) (q .same i l)
 
-  place-told : byteAt b i atPlace ≡ storedPlace t i
+  pub place-told : byteAt b i atPlace ≡ storedPlace t i
   place-told = rw (← byte-in b i atPlace (omega arith), own) (place-back t i)
 
 module _ {n used a : ℕ} {t : Table} {b count : List ℕ} (g : Stage n used a nobody t b count) where

@@ -30,8 +30,8 @@ records-image n t b size r =
     (sym (take-all (n * recordLength) b (omega arith)))
 
 -- bytes that are an image are the records of the table that they are read as
-pub read-records : (n : ℕ) (b : List ℕ) → isImage n b ≡ true → Records n (recordOf (tableOf n b)) b
-read-records n b image =
-    let t = tableOf n b in
-    let (good, same) = write-back n image in
+pub read-records : (n ed : ℕ) (b : List ℕ) → isImage n ed b ≡ true → Records n (recordOf (tableOf n ed b)) b
+read-records n ed b image =
+    let t = tableOf n ed b in
+    let (good, same) = write-back n ed image in
     subst (λ (x : List ℕ). Records n (recordOf t) x) same (image-records n t (good .rules .size))

@@ -1,5 +1,5 @@
 -- A slot that stood in no queue joins the tail of one: its record is written, with the number of those who stand there as its place.
-use Prim.Native.Nat.{ℕ, _≤_, _<_}
+use Prim.Native.Nat.{ℕ, _+_, _≤_, _<_}
 use mathlib.Core.Path.{_≡_, refl, sym, ap, _∙_}
 use mathlib.Core.Logic.{_≢_}
 use mathlib.Core.Bool.{Bool, true, false}
@@ -23,6 +23,7 @@ use Rattle.task.specs.declared.task.Task.{Task}
 use Rattle.task.specs.Task.{noTask, isUsed, isActive, isReady, isQuiet, taskAs}
 use Rattle.task.proofs.Stands.{stands-ready}
 use Rattle.kernel.specs.declared.table.Table.{Table}
+use Rattle.kernel.specs.Edition.{mayWait}
 use Rattle.kernel.specs.Table.{taskAt, queueAt}
 use Rattle.kernel.specs.Moves.{leftAs, queued, woken}
 use Rattle.rules.specs.Good.{goodResult, goodState}
@@ -39,7 +40,7 @@ use Rattle.records.proofs.Changes.{same-record, one-written, left-is}
 
 -- the task of slot s is x, and its mark joined queue k
 abbrev with-joined : Table → ℕ → ℕ → Task → Table
-with-joined t s k x = record { tasks = set (t .tasks) s x; queues = set (t .queues) k (pushedRow (queueAt t k) (markOf s)) }
+with-joined t s k x = record { edition = t .edition; tasks = set (t .tasks) s x; queues = set (t .queues) k (pushedRow (queueAt t k) (markOf s)) }
 
 module _ {n used a : ℕ} {w : ℕ → Bool} {t : Table} {b count : List ℕ} (g : Stage n used a w t b count) (s k : ℕ)
     (l : s < used) (out : keyOf n w t s ≡ queuesFor n) (h : k < queuesFor n) where
@@ -99,14 +100,14 @@ module _ {n used c : ℕ} {t : Table} {b count : List ℕ} (g : Stage n used c n
   pub queues-stage : (k : ℕ) (st : State) → isUsed st ≡ true → isActive st ≡ false → isReady st ≡ false → isQuiet st ≡ false → goodState used c st ≡ true
       → priorities ≤ k → k < queuesFor n → standing n (taskAs st Nothing (taskAt t c)) ≡ k
       → ((j : ℕ) → sendQueue j ≡ k → isQuiet (taskAt t j .state) ≡ false)
-      → ((e : ℕ) → e < events → eventQueue e ≡ k → queueAt t k .len ≡ 0)
+      → ((e : ℕ) → e < events → eventQueue e ≡ k → mayWait (t .edition) (queueAt t k .len + 1) ≡ true)
       → Stage n used n nobody (leftAs (queued t k (markOf c)) c st Nothing) (leftBytes b c st Nothing (queueAt t k .len)) count
   unfolding queued
-  queues-stage k st is-used still unready unblocked good past h stands quiet none =
+  queues-stage k st is-used still unready unblocked good past h stands quiet fits =
       let f = g .rules in
       let x = taskAs st Nothing (taskAt t c) in
       let l : c < used = slot-used f (rw runs) in
-      let rules = queued-kept f c n k st (rw runs) (λ ne. absurd (ne refl)) is-used still unready unblocked good h stands quiet none in
+      let rules = queued-kept f c n k st (rw runs) (λ ne. absurd (ne refl)) is-used still unready unblocked good h stands quiet fits in
       rw (left-is g c (omega (arith, f .tasks .fits)) st Nothing)
       (record {
         rules = rules;

@@ -14,7 +14,7 @@ use borrow.Author.Tests.{eqb-true, eq-eqb, ne-eqb}
 use Rattle.tid.specs.Sizes.{priorities}
 use Rattle.tid.specs.Tid.{slotOf, tidOf}
 use Rattle.queue.specs.Choose.{choose}
-use Rattle.queue.specs.Numbering.{readyQueue, sendQueue, queuesFor}
+use Rattle.queue.specs.Numbering.{readyQueue, eventQueue, sendQueue, queuesFor}
 use Rattle.queue.specs.Row.{placeAt, poppedRow}
 use Rattle.queue.specs.Rows.{noRow}
 use Rattle.queue.proofs.Below.{by-test}
@@ -29,9 +29,10 @@ use Rattle.task.proofs.Stands.{stands-used}
 use Rattle.kernel.specs.declared.table.Table.{Table}
 use Rattle.kernel.specs.Table.{slots, taskAt, queueAt, withQueue}
 use Rattle.kernel.specs.Moves.{leftAs, activated}
+use Rattle.kernel.proofs.Editions.{fewer-wait}
 use Rattle.rules.specs.Facts.{standing, nobody, Waking}
 use Rattle.rules.proofs.Replaced.{set-replaces}
-use Rattle.kept.proofs.Change.{quiet-set, single-set, row-leaves}
+use Rattle.kept.proofs.Change.{quiet-set, waiters-set, row-leaves}
 use Rattle.kept.proofs.Moves.{row-head, stander-used, received-kept, activated-kept}
 use Rattle.kept.proofs.Tasks.{isFree, free}
 use Rattle.image.specs.Record.{recordLength, atPriority, atParent, atAwaited, atEntry, storedPlace, fields, taskRecord, recordOf, byteAt, entryAt}
@@ -88,8 +89,9 @@ module _ {n used a : ℕ} {t : Table} {b count : List ℕ} (g : Stage n used a n
         lined = row-leaves (f .lined) k (q .within) some (rw (eq-eqb s s refl) (le-refl (queuesFor n))) (λ j _ ne. rw (ne-eqb j s ne));
         quiet = quiet-set n (t .queues) (taskAt t) k _ (f .quiet)
             (λ j same e. absurd (omega (arith, f .quiet j (omega (arith, q .within)) e, ap (λ (i : ℕ). queueAt t i .len) same))) inside;
-        single = single-set (t .queues) k _ (f .single)
-            (λ e h same. omega (arith, popped-len (queueAt t k) some, f .single e h, ap (λ (i : ℕ). queueAt t i .len) same)) inside;
+        waiters = waiters-set (t .edition) (t .queues) k _ (f .waiters)
+            (λ e h same. fewer-wait (t .edition) (queueAt t (eventQueue e) .len) (poppedRow (queueAt t k) .len)
+            (omega (arith, popped-len (queueAt t k) some, ap (λ (i : ℕ). queueAt t i .len) same)) (f .waiters e h)) inside;
       }
 
   -- those behind the head are one place nearer, and all others where they were

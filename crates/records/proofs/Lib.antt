@@ -12,4 +12,5 @@ pub mod Leaves
 pub mod Wakes
 pub mod Fresh
 pub mod Targets
+pub mod Waiters
 pub mod Cuts

@@ -20,13 +20,13 @@ use Rattle.image.proofs.Laws.{write-back}
 use Rattle.records.proofs.Images.{read-records}
 use Rattle.records.proofs.Tasks.{code-told, awaited-told}
 
-pub target-lives-in : (n : ℕ) (b : List ℕ) (s : ℕ) → isImage n b ≡ true → s < n → byteAt b s atState ≡ 4
+pub target-lives-in : (n ed : ℕ) (b : List ℕ) (s : ℕ) → isImage n ed b ≡ true → s < n → byteAt b s atState ≡ 4
     → let code = byteAt b (slotNamed (byteAt b s atAwaited)) atState in (0 < code) × (code < 7)
-target-lives-in n b s image l four =
-    let t = tableOf n b in
-    let good = write-back n image .0 in
+target-lives-in n ed b s image l four =
+    let t = tableOf n ed b in
+    let good = write-back n ed image .0 in
     let f = good .rules in
-    let records = read-records n b image in
+    let records = read-records n ed b image in
     let g = awaited (taskAt t s .state) in
     let sends = sym (code-told f records s l) ∙ four in
     let lives = target-lives t (facts-good n t good) s (omega (arith, f .size)) (eq-eqb (codeAt t s) 4 sends) in

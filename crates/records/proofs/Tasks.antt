@@ -62,6 +62,10 @@ module _ {n used a : ℕ} {w : ℕ → Bool} {t : Table} {b : List ℕ} (f : Wak
       number-in b s atEntry 4 (omega arith)
       ∙ told (λ r x. numberIn r atEntry 4 ≡ x .entry) (λ x place f. number-back 4 (x .entry) (f .entry)) refl s h
 
+  pub result-told : (s : ℕ) → s < n → resultOf (resultPartsIn (recordAt recordLength b s)) ≡ taskAt t s .result
+  unfolding taskRecord usedFrom
+  result-told = told (λ r x. resultOf (resultPartsIn r) ≡ x .result) (λ x place f. ap (λ (y : Task). y .result) (used-back used x place f)) refl
+
 -- The same of a stage.
 module _ {n used a : ℕ} {w : ℕ → Bool} {t : Table} {b count : List ℕ} (g : Stage n used a w t b count) where
   pub byte-code : (s : ℕ) → s < n → byteAt b s atState ≡ codeAt t s
@@ -87,6 +91,4 @@ module _ {n used a : ℕ} {w : ℕ → Bool} {t : Table} {b count : List ℕ} (g
   reply-read = told (g .rules) (g .records) (λ r x. bufferIn r atReply ≡ replyOf (x .state)) (λ x place f. buffer-back (replyOf (x .state)) (f .reply)) refl
 
   pub result-read : (s : ℕ) → s < n → resultOf (resultPartsIn (recordAt recordLength b s)) ≡ taskAt t s .result
-  unfolding taskRecord usedFrom
-  result-read =
-      told (g .rules) (g .records) (λ r x. resultOf (resultPartsIn r) ≡ x .result) (λ x place f. ap (λ (y : Task). y .result) (used-back used x place f)) refl
+  result-read = result-told (g .rules) (g .records)

@@ -24,7 +24,7 @@ use Rattle.task.specs.declared.task.State.the-variants.{Ready}
 use Rattle.task.specs.Task.{taskAs}
 use Rattle.kernel.specs.declared.table.Table.{Table}
 use Rattle.kernel.specs.Table.{slots, taskAt, queueAt, withQueue}
-use Rattle.kernel.specs.Moves.{woken, wokenUpTo, wokenRow}
+use Rattle.kernel.specs.Moves.{queued, joined, woken, wokenUpTo, wokenRow}
 use Rattle.rules.specs.Good.{goodResult}
 use Rattle.rules.specs.Facts.{nobody, Rules}
 use Rattle.kept.proofs.Moves.{woken-is}
@@ -87,6 +87,11 @@ module _ (x : Table) (k s : ℕ) (o : Result) (r : Queue) (l : s < slots x) (ne 
         set-set (x .queues) k r r′,
       )
 
+-- who is woken leaves the edition as it is
+pub woken-edition : (x : Table) (mark : ℕ) (o : Result) → woken x mark o .edition ≡ x .edition
+unfolding woken joined queued
+woken-edition x mark o = refl
+
 -- a row where nobody stands is an emptied one
 nobody-stands : {n : ℕ} {mine : ℕ → Bool} {q : Queue} → RowFacts n mine q → (w : ℕ) → length (q .marks) ≡ w → q .len ≡ 0 → q ≡ emptyRow w
 nobody-stands {q = q} f w size none =
@@ -103,6 +108,7 @@ pub record Round (n used a k : ℕ) (t : Table) (o : Result) (h : Held) (i : ℕ
   pub stage : Stage n used a nobody (headsWoken t k o i) (h .bytes) (h .counts)
   pub left : queueAt (headsWoken t k o i) k .len + i ≡ queueAt t k .len
   pub place : (p : ℕ) → placeAt (queueAt (headsWoken t k o i) k) p ≡ placeAt (queueAt t k) (p + i)
+  pub edition : headsWoken t k o i .edition ≡ t .edition
   pub rest : let q = queueAt t k in withQueue (headsWoken t k o i) k (emptied q) ≡ wokenUpTo (withQueue t k (emptied q)) q o i
 
 module _ {n used a : ℕ} {t : Table} {b count : List ℕ} (g : Stage n used a nobody t b count)
@@ -110,7 +116,7 @@ module _ {n used a : ℕ} {t : Table} {b count : List ℕ} (g : Stage n used a n
     (o : Result) (good : goodResult used o ≡ true) where
   round-none : Round n used a k t o (wokenIn n used code key o b count 0) 0
   unfolding headsWoken wokenIn wokenUpTo
-  round-none = record { stage = g; left = omega arith; place = λ p. rw add-zero; rest = refl }
+  round-none = record { stage = g; left = omega arith; place = λ p. rw add-zero; edition = refl; rest = refl }
 
   module _ {i : ℕ} (r : Round n used a k t o (wokenIn n used code key o b count i) i) (some : i < queueAt t k .len) where
     pub stands : 0 < queueAt (headsWoken t k o i) k .len
@@ -137,6 +143,7 @@ module _ {n used a : ℕ} {t : Table} {b count : List ℕ} (g : Stage n used a n
           stage = rw round-head (wakes-stage (r .stage) q past stands o good);
           left = rw after (omega (arith, popped-len (queueAt x k) stands, r .left));
           place = λ p. rw after (popped-place (queueAt x k) stands p ∙ r .place (p + 1) ∙ ap (placeAt (queueAt t k)) (omega arith));
+          edition = woken-edition (headGone x k) (markOf s) o ∙ r .edition;
           rest = woken-apart x k s o (poppedRow (queueAt x k)) l other _ ∙ ap₂ (λ (y : Table) (m : ℕ). woken y m o) (r .rest) mark;
         }
 
@@ -144,11 +151,11 @@ module _ {n used a : ℕ} {t : Table} {b count : List ℕ} (g : Stage n used a n
   rounds zero h = round-none
   rounds (suc i) h = round-more (rounds i (omega arith)) (omega arith)
 
-  -- all of them: nobody stands there any more
+  -- all of them: nobody stands there any more, and the edition is what it was
   pub all-woken : let q = queueAt t k in
       let t′ = wokenRow (withQueue t k (emptied q)) q o in
       let h = wokenIn n used code key o b count (q .len) in
-      Stage n used a nobody t′ (h .bytes) (h .counts) × (queueAt t′ k .len ≡ 0)
+      Stage n used a nobody t′ (h .bytes) (h .counts) × (queueAt t′ k .len ≡ 0) × (t′ .edition ≡ t .edition)
   all-woken =
       let q = queueAt t k in
       let x = headsWoken t k o (q .len) in
@@ -159,4 +166,4 @@ module _ {n used a : ℕ} {t : Table} {b count : List ℕ} (g : Stage n used a n
       let none : queueAt x k .len ≡ 0 = omega (arith, r .left) in
       let empty : queueAt x k ≡ emptied q = nobody-stands row (length (q .marks)) (f .lined .shaped .places k inside ∙ sym (g .rules .lined .shaped .places k inside)) none in
       let all : Row.count q ≡ q .len = omega (arith, g .rules .lined .holds .row k (rw (g .rules .lined .shaped .count) inside) .fits) in
-      rw (all, ← r .rest, ← empty, set-getD (x .queues) k noRow) (r .stage, none)
+      rw (all, ← r .rest, ← empty, set-getD (x .queues) k noRow) (r .stage, none, r .edition)

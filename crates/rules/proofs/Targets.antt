@@ -22,6 +22,7 @@ use Rattle.task.specs.Task.{stateCode, awaited, isUsed, isAlive, isSendBlocked,
 use Rattle.task.proofs.Stands.{stands-in, stands-used}
 use Rattle.task.proofs.Tests.{clash, implied, implies}
 use Rattle.kernel.specs.declared.table.Table.{Table}
+use Rattle.kernel.specs.Edition.{isEdition}
 use Rattle.kernel.specs.Table.{slots, taskAt, queueAt, usedSlots}
 use Rattle.kernel.specs.Kinds.{alive}
 use Rattle.rules.specs.Good.{goodTasks, goodActive, goodQueues, goodReceivers, goodTargets, goodTable}
@@ -129,6 +130,6 @@ pub target-lives : (t : Table) → goodTable t ≡ true → (s : ℕ) → s < sl
     → alive t (awaited (taskAt t s .state)) ≡ true
 unfolding goodTable goodTargets
 target-lives t h s l blocked =
-    let others = goodTasks t && goodActive t && goodQueues t && goodReceivers t in
+    let others = isEdition (t .edition) && goodTasks t && goodActive t && goodQueues t && goodReceivers t in
     let targets = both-true others _ (both-true (others && goodTargets t) _ h .0) .1 in
     implied _ _ (all-below (slots t) _ targets s l) blocked

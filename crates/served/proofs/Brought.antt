@@ -28,7 +28,7 @@ use Rattle.kernel.proofs.Every.{everyKind}
 use Rattle.kept.proofs.Tasks.{codeAt}
 use Rattle.step.specs.Step.{step, after}
 use Rattle.laws.specs.View.{isEntry, isSentTo, isReceivedFrom, Steps}
-use Rattle.laws.proofs.Choices.{through, choose-same}
+use Rattle.kept.proofs.Choices.{through, choose-same}
 use Rattle.laws.proofs.Concerns.{fails, Sent, sent-facts, received-facts}
 use Rattle.laws.proofs.Effects.{step-cases}
 use Rattle.laws.proofs.Reach.{step-effect, send-effect, receive-turn}

@@ -23,7 +23,7 @@ use Rattle.kernel.proofs.Refusals.{fine}
 use Rattle.kept.proofs.Moves.{slot-used}
 use Rattle.step.specs.Run as Run
 use Rattle.laws.specs.View.{isEntry, left, Ends, runs, waits, Steps, bytesAt}
-use Rattle.laws.proofs.Choices.{choose-same}
+use Rattle.kept.proofs.Choices.{choose-same}
 use Rattle.laws.proofs.Concerns.{sent-facts}
 use Rattle.laws.proofs.Sees as Sees
 use Rattle.laws.proofs.Sees.{not-caller, steps-good}

@@ -29,7 +29,7 @@ use Rattle.kept.proofs.Tasks.{codeAt}
 use Rattle.laws.specs.View.{isEntry, isSentTo, isReceivedFrom, left}
 use Rattle.laws.proofs.Concerns.{Sent, sent-facts, facts-sent, received-state, left-sent, left-aside}
 use Rattle.laws.proofs.Sees.{enters, left-other, left-own}
-use Rattle.laws.proofs.Choices.{through, choose-same}
+use Rattle.kept.proofs.Choices.{through, choose-same}
 use Rattle.server.specs.declared.phase.Phase.{Phase}
 use Rattle.server.specs.declared.phase.Phase.the-variants.{Making, Made, Writing, Replying, Listening}
 use Rattle.server.specs.Phase.{ask, receives, requestIn, after}

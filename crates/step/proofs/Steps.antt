@@ -13,7 +13,8 @@ use Rattle.kernel.specs.declared.table.Table.{Table}
 use Rattle.kernel.specs.declared.table.Request.{Request}
 use Rattle.kernel.specs.declared.table.Effect.the-variants.{Keep}
 use Rattle.kernel.specs.declared.table.Decision.{Decision}
-use Rattle.kernel.specs.Numbers.{createKind, eventKind, ownWriteKind, accepted, badAreas, badTable, badKind, noneActive, badEvent, badWrite}
+use Rattle.kernel.specs.Numbers.{createKind, eventKind, ownWriteKind, accepted, badAreas, badTable, badKind, noneActive, badEvent, badWrite, badEdition}
+use Rattle.kernel.specs.Edition.{isEdition}
 use Rattle.kernel.specs.Table.{slots, activeSlot}
 use Rattle.kernel.specs.Turn.{settled}
 use Rattle.kernel.specs.Refusal.{refusalOf, Enters}
@@ -61,21 +62,22 @@ module _ (t : Table) (r : Request) where
       (λ other. entered (clear, eqb-false (r .kind) ownWriteKind other)))
 
   module _ (len : ℕ) where
-    -- what is so of both refusals of a step, and of what is decided of a table that keeps the rules, is so of the step
-    pub step-is : (P : Decision → Type 0) → P (refused t badAreas 0) → (goodTable t ≡ false → P (refused t badTable 0))
+    -- what is so of the three refusals of a step, and of what is decided of a table that keeps the rules, is so of the step
+    pub step-is : (P : Decision → Type 0) → P (refused t badEdition 0) → P (refused t badAreas 0) → (goodTable t ≡ false → P (refused t badTable 0))
         → (goodTable t ≡ true → P (decide t r)) → P (step t r len)
     unfolding step
-    step-is P one two decided =
-        chosen P (not (eqb len (slots t * areaBytes))) (λ _. one)
-        (λ _. chosen P (not (goodTable t)) (λ bad. two (not-true (goodTable t) bad)) (λ good. decided (not-false (goodTable t) good)))
+    step-is P twelve one two decided =
+        chosen P (not (isEdition (t .edition))) (λ _. twelve)
+        (λ _. chosen P (not (eqb len (slots t * areaBytes))) (λ _. one)
+        (λ _. chosen P (not (goodTable t)) (λ bad. two (not-true (goodTable t) bad)) (λ good. decided (not-false (goodTable t) good))))
 
     -- the numbers that a step is refused by, and 0
-    pub step-verdict : (P : ℕ → Type 0) → P accepted → P badAreas → P badTable → P badKind → P noneActive → P badEvent → P badWrite
-        → P (step t r len .answer .verdict)
+    pub step-verdict : (P : ℕ → Type 0) → P accepted → P badEdition → P badAreas → P badTable → P badKind → P noneActive → P badEvent
+        → P badWrite → P (step t r len .answer .verdict)
     unfolding settled ownWrite
-    step-verdict P zero one two three four eight nine =
+    step-verdict P zero twelve one two three four eight nine =
         let Q : Decision → Type 0 = λ d. P (d .answer .verdict) in
-        step-is Q one (λ _. two)
+        step-is Q twelve one (λ _. two)
         (λ _. decide-is Q (λ _. refusal-is P _ _ r zero three four eight nine) (λ _ _. zero) (λ _. rw dispatched-accepted zero))
 
     -- a refused step changes nothing
@@ -83,19 +85,23 @@ module _ (t : Table) (r : Request) where
     unfolding settled ownWrite
     refused-step =
         let Q : Decision → Type 0 = λ d. d .answer .verdict ≢ accepted → Unchanged t d in
-        step-is Q (λ _. same t _ _) (λ _ _. same t _ _)
+        step-is Q (λ _. same t _ _) (λ _. same t _ _) (λ _ _. same t _ _)
         (λ _. decide-is Q (λ _ _. same t _ _) (λ _ _ no. absurd (no refl)) (λ _ no. absurd (no (dispatched-accepted _ _))))
 
-    -- Which of its three forms a step has.
+    -- Which of its four forms a step has.
 
-    pub step-areas : len ≢ slots t * areaBytes → step t r len ≡ refused t badAreas 0
+    pub step-edition : isEdition (t .edition) ≡ false → step t r len ≡ refused t badEdition 0
     unfolding step
-    step-areas other = rw (ne-eqb len (slots t * areaBytes) other)
+    step-edition none = rw none
 
-    pub step-broken : len ≡ slots t * areaBytes → goodTable t ≡ false → step t r len ≡ refused t badTable 0
+    pub step-areas : isEdition (t .edition) ≡ true → len ≢ slots t * areaBytes → step t r len ≡ refused t badAreas 0
     unfolding step
-    step-broken size bad = rw (eq-eqb len (slots t * areaBytes) size, bad)
+    step-areas known other = rw (known, ne-eqb len (slots t * areaBytes) other)
+
+    pub step-broken : isEdition (t .edition) ≡ true → len ≡ slots t * areaBytes → goodTable t ≡ false → step t r len ≡ refused t badTable 0
+    unfolding step
+    step-broken known size bad = rw (known, eq-eqb len (slots t * areaBytes) size, bad)
 
     pub step-decides : {n : ℕ} → Good n t → len ≡ n * areaBytes → step t r len ≡ decide t r
     unfolding step
-    step-decides {n} good size = rw (good .rules .size, eq-eqb len (n * areaBytes) size, facts-good n t good)
+    step-decides {n} good size = rw (good .edition, good .rules .size, eq-eqb len (n * areaBytes) size, facts-good n t good)

@@ -6,6 +6,7 @@ use image::call::put_answer;
 use image::call::request_from;
 use image::stored::IMAGE;
 use image::stored::write;
+use kernel::edition::ONE_WAITS;
 use kernel::numbers::ACCEPTED;
 use kernel::table::Table;
 use libc::STDIN_FILENO;
@@ -61,7 +62,7 @@ fn main() {
     let mut records = io::large_buffer();
     let n = io::read_full(STDIN_FILENO, &mut records);
     if 0 < n {
-        let started = start(FIRST, FIRST_ENTRY);
+        let started = start(ONE_WAITS, FIRST, FIRST_ENTRY);
         let first = started.table;
         let mut areas = [0u8; SLOTS * AREA];
         let mut answers = [0u8; MOST * ANSWER];

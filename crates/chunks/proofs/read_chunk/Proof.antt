@@ -5,22 +5,19 @@ use borrow.Author.Needs.{needs}
 use Rattle.chunks.proofs.read_chunk.Statement.{statement}
 use Rattle.chunks.proofs.read_chunk.Tie as tie
 
-slice-aggregate-read-full-2 : tie.Need-slice-aggregate-read-full-2
-slice-aggregate-read-full-2 c = simp length-take (omega arith)
+slice-aggregate-read-full : tie.Need-slice-aggregate-read-full
+slice-aggregate-read-full c = simp length-take (omega arith)
 
 pub read-chunk-spec : {M : Type 1} → statement M
 read-chunk-spec =
     tie.close
     (tie.spec
-    (λ c. search needs)
-    (λ c κs. search needs)
-    (λ c. search needs)
-    (λ c. search needs)
     (λ c κs. search needs)
     (λ c. search needs)
     (λ c. search needs)
     (λ c. search needs)
-    slice-aggregate-read-full-2
+    (λ c. search needs)
+    slice-aggregate-read-full
     (λ c κs. search needs)
     (λ c. search needs)
     (λ c. search needs)

@@ -22,6 +22,9 @@ use Rattle.inplace.proofs.decide.Tie as tie
 abbrev opened : tie.After-check → tie.Start
 opened p = p .before .before .before .before
 
+abbrev edition : tie.After-check → ℕ
+edition p = opened p .args .edition
+
 abbrev image : tie.After-check → List ℕ
 image p = opened p .args .image .now
 
@@ -32,33 +35,33 @@ small : (p : tie.After-check) → Bytes (image p)
 small p i = omega (arith, p .before .before .before .slice-known .given i)
 
 -- what the check found
-told : (p : tie.After-check) → p .check .result .good ≡ isImage slotCount (image p)
-told p = found-good slotCount (image p) (sized p) (small p) (p .check .result) (p .check .ensures)
+told : (p : tie.After-check) → p .check .result .good ≡ isImage slotCount (edition p) (image p)
+told p = found-good slotCount (edition p) (image p) (sized p) (small p) (p .check .result) (p .check .ensures)
 
 -- the bytes are an image
 abbrev checked : tie.Else2 → tie.After-check
 checked p = p .before .before
 
-good : (p : tie.Else2) → isImage slotCount (image (checked p)) ≡ true
+good : (p : tie.Else2) → isImage slotCount (edition (checked p)) (image (checked p)) ≡ true
 good p = sym (told (checked p)) ∙ not-false (checked p .check .result .good) (p .if2 .left)
 
 returns : tie.Need-returns
 returns c =
     let start = c .before .before .before in
-    rw (c .told-nothing .ensures) (wrong-length slotCount (start .args .image .now) (start .args .r) (λ e. omega arith))
+    rw (c .told-nothing .ensures) (wrong-length slotCount (start .args .edition) (start .args .image .now) (start .args .r) (λ e. omega arith))
 
 returns-2 : tie.Need-returns-2
 returns-2 c =
     let found = c .before .before .before in
     let bad = sym (told found) ∙ not-true (found .check .result .good) (c .before .if2 .taken) in
-    rw (c .told-nothing2 .ensures) (wrong-image slotCount (image found) (sized found) (small found) (opened found .args .r) bad)
+    rw (c .told-nothing2 .ensures) (wrong-image slotCount (edition found) (image found) (sized found) (small found) (opened found .args .r) bad)
 
 returns-3 : tie.Need-returns-3
 returns-3 c =
     let asked = c .before .before .before in
     let found = checked (asked .before) in
     rw (c .told-nothing3 .ensures, c .before .shown-tid .ensures)
-    (decided-refused slotCount (image found) (sized found) (small found) (found .check .result) (found .check .ensures) (good (asked .before))
+    (decided-refused slotCount (edition found) (image found) (sized found) (small found) (found .check .result) (found .check .ensures) (good (asked .before))
     (opened found .args .r) (asked .refusal .result) (asked .refusal .ensures) (c .before .before .if3 .taken))
 
 -- a request that is not refused
@@ -77,11 +80,11 @@ own p =
     let write = f .write (p .if4 .taken) in
     (f .caller (λ e. omega (arith, p .if4 .taken)), write .0, write .1)
 
-mul-t17 : tie.Need-mul-t17
-mul-t17 c = let l = own c in record { fits = omega arith }
+mul-t18 : tie.Need-mul-t18
+mul-t18 c = let l = own c in record { fits = omega arith }
 
-add-t19 : tie.Need-add-t19
-add-t19 c = let l = own (c .before) in record { fits = omega arith }
+add-t20 : tie.Need-add-t20
+add-t20 c = let l = own (c .before) in record { fits = omega arith }
 
 cast-told-nothing : tie.Need-cast-told-nothing
 cast-told-nothing c = let l = own (c .before .before) in record { fits = omega arith }
@@ -92,7 +95,7 @@ returns-4 c =
     let asked = here .before .before .before in
     let found = checked (asked .before) in
     rw (c .told-nothing4 .ensures, c .before .tid-of .ensures, in-byte (found .check .result .active) (omega (arith, own here)))
-    (decided-write slotCount (image found) (sized found) (small found) (found .check .result) (found .check .ensures) (good (asked .before))
+    (decided-write slotCount (edition found) (image found) (sized found) (small found) (found .check .result) (found .check .ensures) (good (asked .before))
     (opened found .args .r) (asked .refusal .result) (asked .refusal .ensures) (here .before .before .if3 .left) (here .if4 .taken))
 
 turned-requires : tie.Need-turned-requires
@@ -100,7 +103,7 @@ turned-requires c κs =
     let here = c .before .before .before in
     let found = checked (here .before .before .before .before) in (
       (none (here .before .before), here .if4 .left),
-      begins slotCount (image found) (sized found) (small found) (found .check .result) (found .check .ensures) (good (here .before .before .before .before)),
+      begins slotCount (edition found) (image found) (sized found) (small found) (found .check .result) (found .check .ensures) (good (here .before .before .before .before)),
     )
 
 returns-5 : tie.Need-returns-5
@@ -110,7 +113,7 @@ returns-5 c =
     let here = worked .before .before .before .before in
     let asked = here .before .before .before in
     let found = checked (asked .before) in
-    decided-enters slotCount (image found) (sized found) (small found) (found .check .result) (found .check .ensures) (good (asked .before))
+    decided-enters slotCount (edition found) (image found) (sized found) (small found) (found .check .result) (found .check .ensures) (good (asked .before))
     (opened found .args .r) (asked .refusal .result) (asked .refusal .ensures) (here .before .before .if3 .left) (here .if4 .left)
     (worked .turned .result) (worked .turned .ensures) (ended .settled .ensures)
 
@@ -129,9 +132,9 @@ decide-spec =
     (λ c κs. search needs)
     (λ c. search needs)
     returns-3
-    mul-t17
+    mul-t18
     (λ c. search needs)
-    add-t19
+    add-t20
     cast-told-nothing
     (λ c κs. search needs)
     (λ c κs. search needs)

@@ -9,10 +9,10 @@ use Rattle.kernel_run.proofs.run.Statement.{statement}
 use Rattle.kernel_run.proofs.run.Tie as tie
 
 abbrev Inv-loop : tie.InvT-loop
-Inv-loop areas₀ wide table₀ step₀ turns₀ areas table step turns = Stands table step areas × (length areas ≡ length areas₀)
+Inv-loop edition areas₀ wide table₀ step₀ turns₀ areas table step turns = Stands edition table step areas × (length areas ≡ length areas₀)
 
 abbrev μ-loop : tie.MeasureT-loop
-μ-loop areas₀ wide table₀ step₀ turns₀ areas table step turns = turns
+μ-loop edition areas₀ wide table₀ step₀ turns₀ areas table step turns = turns
 
 loop-again : tie.Need-loop-again Inv-loop μ-loop
 loop-again c =

@@ -32,7 +32,7 @@ shown-requires c κs =
 slice-aggregate-written : tie.Need-slice-aggregate-written
 slice-aggregate-written c =
     let done = c .before .before .before .before .before .shown in
-    sym (length-take-le (done .result .end) (done .last .1 .1 .1 .0) (search needs))
+    sym (length-take-le (done .result .end) (done .last .1 .1 .1 .1 .0) (search needs))
 
 returns : tie.Need-returns
 returns c more input at =

@@ -11,16 +11,16 @@ use Rattle.audit.proofs.places.all_judged.Statement.{statement}
 use Rattle.audit.proofs.places.all_judged.Tie as tie
 
 abbrev Inv-loop : tie.InvT-loop
-Inv-loop image used active count base₀ taken₀ given₀ s₀ base taken given s = Passed slotCount image used active count base taken given s
+Inv-loop edition image used active count base₀ taken₀ given₀ s₀ base taken given s = Passed slotCount edition image used active count base taken given s
 
 abbrev μ-loop : tie.MeasureT-loop
-μ-loop image used active count base₀ taken₀ given₀ s₀ base taken given s = used - s
+μ-loop edition image used active count base₀ taken₀ given₀ s₀ base taken given s = used - s
 
 -- a slot whose record is good
 next : (c : tie.After-queue-at Inv-loop μ-loop) →
     let at = c .before .before .before .before in
     let a = at .before .before .args in
-    Next slotCount (a .image .now) (a .used) (a .active) (a .t4) (at .loop .base) (at .loop .taken) (at .loop .given) (at .loop .s) (c .queue-at .result)
+    Next slotCount (a .edition) (a .image .now) (a .used) (a .active) (a .t5) (at .loop .base) (at .loop .taken) (at .loop .given) (at .loop .s) (c .queue-at .result)
 next c =
     let judged = c .before .before in
     judged-next (judged .before .before .loop .inv) (judged .before .loop-test .taken) (judged .judged .result) (judged .judged .ensures)
@@ -31,7 +31,7 @@ room : (c : tie.Then4 Inv-loop μ-loop) →
     let asked = c .before .before .before .before in
     let at = asked .before .before .before .before in
     let a = at .before .before .args in
-    at .loop .given + getD (a .t4) (asked .queue-at .result) 0 ≤ slotCount
+    at .loop .given + getD (a .t5) (asked .queue-at .result) 0 ≤ slotCount
 room c =
     let asked = c .before .before .before .before in
     let start = asked .before .before .before .before .before .before in
@@ -42,7 +42,7 @@ placed : (c : tie.Joined4 Inv-loop μ-loop) →
     let asked = c .before .before .before .before in
     let at = asked .before .before .before .before in
     let a = at .before .before .args in
-    Placed slotCount (a .image .now) (a .used) (a .active) (a .t4) (c .if4 .base) (at .loop .taken) (c .if4 .given) (at .loop .s) (asked .queue-at .result)
+    Placed slotCount (a .edition) (a .image .now) (a .used) (a .active) (a .t5) (c .if4 .base) (at .loop .taken) (c .if4 .given) (at .loop .s) (asked .queue-at .result)
 placed c =
     let asked = c .before .before .before .before in
     let start = asked .before .before .before .before .before .before in
@@ -60,7 +60,7 @@ inside c = omega (arith, placed-inside (placed (c .before .before)) (c .before .
 loop-holds : tie.Need-loop-holds Inv-loop μ-loop
 loop-holds c =
     let a = c .before .args in
-    passed-none slotCount (a .image .now) (a .used) (a .active) (a .t4) (c .before .pre .0)
+    passed-none slotCount (a .edition) (a .image .now) (a .used) (a .active) (a .t5) (c .before .pre .0)
 
 returns : tie.Need-returns Inv-loop μ-loop
 returns c =

@@ -48,7 +48,7 @@ returns-3 c =
     (joined .if3 .came) in
     let size : s * recordLength + recordLength - s * recordLength ≡ recordLength = omega arith in
     rw (mine, alone)
-    (c .sound .ensures ∙ ap (λ (k : ℕ). recordSound (a .used) s (take k (drop (s * recordLength) (a .image .now)))) size)
+    (c .sound .ensures ∙ ap (λ (k : ℕ). recordSound (a .edition) (a .used) s (take k (drop (s * recordLength) (a .image .now)))) size)
 
 pub judged-spec : {M : Type 1} → statement M
 judged-spec =

@@ -41,20 +41,21 @@ returns-4 c =
       ← plain .before .no-result .ensures,
       not-false (plain .before .no-result .result) (plain .if2 .left),
       ne-eqb _ 4 (left .if3 .left),
-      ne-eqb _ 0 (c .if4 .taken),
+      c .before .if4 .taken,
+      c .good-waiter .ensures,
     )
 
 returns-5 : tie.Need-returns-5
 unfolding fieldsSound
 returns-5 c =
-    let left = c .before .before .before in
+    let left = c .before .before in
     let plain = left .before in
     rw (
       ne-eqb _ 2 (plain .before .before .if1 .left),
       ← plain .before .no-result .ensures,
       not-false (plain .before .no-result .result) (plain .if2 .left),
       ne-eqb _ 4 (left .if3 .left),
-      c .before .if4 .left,
+      ne-eqb _ 6 (c .before .if4 .left),
       c .good-unplaced .ensures,
     )
 
@@ -75,7 +76,7 @@ good-fields-spec =
     (λ c κs. search needs)
     (λ c κs. search needs)
     returns-3
-    (λ c. search needs)
+    (λ c κs. search needs)
     returns-4
     (λ c κs. search needs)
     returns-5)

@@ -6,10 +6,10 @@ use Rattle.damaged_images.proofs.damage.good_values.Statement.{statemen
 use Rattle.damaged_images.proofs.damage.good_values.Tie as tie
 
 abbrev Inv-loop : tie.InvT-loop
-Inv-loop image at good₀ value₀ good value = Unit {0}
+Inv-loop edition image at good₀ value₀ good value = Unit {0}
 
 abbrev μ-loop : tie.MeasureT-loop
-μ-loop image at good₀ value₀ good value = 256 - value
+μ-loop edition image at good₀ value₀ good value = 256 - value
 
 loop-holds : tie.Need-loop-holds Inv-loop μ-loop
 loop-holds c = tt

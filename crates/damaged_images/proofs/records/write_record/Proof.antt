@@ -6,10 +6,10 @@ use Rattle.damaged_images.proofs.records.write_record.Statement.{statem
 use Rattle.damaged_images.proofs.records.write_record.Tie as tie
 
 abbrev Inv-loop : tie.InvT-loop
-Inv-loop image tid at₀ t8 at = Unit {0}
+Inv-loop edition image tid at₀ t8 at = Unit {0}
 
 abbrev μ-loop : tie.MeasureT-loop
-μ-loop image tid at₀ t8 at = 24 - at
+μ-loop edition image tid at₀ t8 at = 24 - at
 
 loop-holds : tie.Need-loop-holds Inv-loop μ-loop
 loop-holds c = tt

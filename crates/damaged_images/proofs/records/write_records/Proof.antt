@@ -6,10 +6,10 @@ use Rattle.damaged_images.proofs.records.write_records.Statement.{state
 use Rattle.damaged_images.proofs.records.write_records.Tie as tie
 
 abbrev Inv-loop : tie.InvT-loop
-Inv-loop image tid₀ tid = Unit {0}
+Inv-loop edition image tid₀ tid = Unit {0}
 
 abbrev μ-loop : tie.MeasureT-loop
-μ-loop image tid₀ tid = 14 - tid
+μ-loop edition image tid₀ tid = 14 - tid
 
 loop-holds : tie.Need-loop-holds Inv-loop μ-loop
 loop-holds c = tt

@@ -47,7 +47,7 @@ returns-7 : tie.Need-returns-7
 returns-7 c = let arm = c .before .before .before in
     let asked = arm .before in
     let parts = asked .before .before .before .before .args .parts in
-    rw (c .read-as7 .ensures, ← parts-exact parts _ _ (c .before .before .no-buffer5 .ensures) (c .before .no-buffer6 .ensures), arm .match .keys7)
+    rw (c .read-as7 .ensures, ← parts-exact parts _ _ (c .before .before .no-buffer5 .ensures) (c .before .no-buffer6 .ensures), arm .match .keys7) (simp and-true)
 
 returns-8 : tie.Need-returns-8
 returns-8 c = let arm = c .before in

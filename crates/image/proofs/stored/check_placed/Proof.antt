@@ -54,7 +54,7 @@ loop-again c =
     let held = c .before .before in
     let at = held .before .before .before in
     let alone = at .before in
-    let found = alone .before .before in
+    let found = alone .before .before .before in
     let start = found .before .before .before .before .before in
     let t = start .args .table in
     let bytes = start .args .bytes .now in
@@ -68,7 +68,7 @@ loop-again c =
       omega arith,
       stood
           ∙ and-assoc (at .loop .good) (held .good-slot .result) _
-          ∙ asked-more s (asks (t .tasks) (t .queues) bytes used (found .first-active .result)) (leb 1 used && alone .before .active-if-ready .result && alone .single .result) (at .loop .inv .1) (rw (held .good-slot .ensures, c .before .queue-of .ensures)),
+          ∙ asked-more s (asks (t .tasks) (t .queues) bytes used (found .first-active .result)) (alone .before .before .is-edition .result && leb 1 used && alone .before .active-if-ready .result && alone .waiters-fit .result) (at .loop .inv .1) (rw (held .good-slot .ensures, c .before .queue-of .ensures)),
     )
 
 returns : tie.Need-returns Inv-loop μ-loop
@@ -76,7 +76,7 @@ unfolding goodPlaced
 returns c =
     let at = c .before in
     let alone = at .before in
-    let found = alone .before .before in
+    let found = alone .before .before .before in
     let start = found .before .before .before .before .before in
     let t = start .args .table in
     let bytes = start .args .bytes .now in
@@ -85,7 +85,7 @@ returns c =
     let active = found .first-active .ensures ∙ active-found slotCount t size in
     let end : at .loop .s ≡ slotCount = omega arith in
     let good : at .loop .good ≡ goodPlaced t (placeRead bytes) =
-    at .loop .inv .1 ∙ rw (end, alone .single .ensures, alone .before .active-if-ready .ensures, used, active, size) in
+    at .loop .inv .1 ∙ rw (end, alone .waiters-fit .ensures, alone .before .active-if-ready .ensures, alone .before .before .is-edition .ensures, used, active, size) in
     λ i. record { good = good i; active = active i }
 
 pub check-placed-spec : {M : Type 1} → statement M
@@ -94,6 +94,7 @@ check-placed-spec =
     (tie.spec
     Inv-loop
     μ-loop
+    (λ c κs. search needs)
     (λ c κs. search needs)
     (λ c κs. search needs)
     (λ c κs. search needs)

@@ -35,23 +35,24 @@ part bytes s =
     ap (λ (k : ℕ). take k (drop (s * recordLength) bytes)) size
 
 abbrev Inv-loop : tie.InvT-loop
-Inv-loop bytes table₀ exact₀ s₀ table exact s = (s ≤ slotCount) × (table ≡ tableUpTo slotCount bytes s) × (exact ≡ exactUpTo bytes s)
+Inv-loop edition bytes table₀ exact₀ s₀ table exact s = (s ≤ slotCount) × (table ≡ tableUpTo slotCount edition bytes s) × (exact ≡ exactUpTo bytes s)
 
 abbrev μ-loop : tie.MeasureT-loop
-μ-loop bytes table₀ exact₀ s₀ table exact s = slotCount - s
+μ-loop edition bytes table₀ exact₀ s₀ table exact s = slotCount - s
 
 loop-holds : tie.Need-loop-holds Inv-loop μ-loop
 unfolding tableUpTo allBelow
-loop-holds c = (omega arith, c .unused-table .ensures, refl)
+loop-holds c = (omega arith, c .blank-table .ensures, refl)
 
 loop-again : tie.Need-loop-again Inv-loop μ-loop
 loop-again c =
     let entry = c .before .before .before .before in
     let at = entry .before .before .before in
     let bytes : List ℕ = at .before .before .before .args .bytes .now in
+    let ed : ℕ = at .before .before .before .args .edition in
     let s : ℕ = at .loop .s in
     let t : Table = at .loop .table in
-    let shape : Shaped slotCount t = rw (at .loop .inv .1) (table-shaped slotCount bytes s) in
+    let shape : Shaped slotCount t = rw (at .loop .inv .1) (table-shaped slotCount ed bytes s) in
     let x = entry .task-read .result .task in
     let k : ℕ = c .before .queue-of .result in
     let put : c .if1 .table ≡ withQueue (withTask t s x) k (placedRow (queueAt t k) (placeFrom (lent bytes s)) (markOf s)) =
@@ -59,7 +60,7 @@ loop-again c =
     (λ other. none-queued (withTask t s x) (c .if1 .table) k _ (omega (arith, shape .queues .count, other .0 .left)) (other .1))
     (c .if1 .came) in (
       omega arith,
-      table-more slotCount bytes (lent bytes s) s t (c .if1 .table) x k (part bytes s) (at .loop .inv .1) (shape .tasks) (ap (λ (y : TaskRead). y .task) (entry .task-read .ensures)) (c .before .queue-of .ensures) put,
+      table-more slotCount ed bytes (lent bytes s) s t (c .if1 .table) x k (part bytes s) (at .loop .inv .1) (shape .tasks) (ap (λ (y : TaskRead). y .task) (entry .task-read .ensures)) (c .before .queue-of .ensures) put,
       rw (all-more, at .loop .inv .2, ap (λ (e : TaskRead). e .exact) (entry .task-read .ensures), part bytes s),
     )
 
@@ -68,7 +69,7 @@ returns c =
     let at = c .before in
     let bytes : List ℕ = at .before .before .before .args .bytes .now in
     let end : at .loop .s ≡ slotCount = omega arith in
-    let table = at .loop .inv .1 ∙ ap (tableUpTo slotCount bytes) end in
+    let table = at .loop .inv .1 ∙ ap (tableUpTo slotCount (at .before .before .before .args .edition) bytes) end in
     let exact = at .loop .inv .2 ∙ ap (exactUpTo bytes) end in
     λ i. record { table = table i; exact = exact i }
 

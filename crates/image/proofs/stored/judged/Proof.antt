@@ -12,7 +12,7 @@ returns c =
     let decoded = checked .before .before in
     let known = decoded .before in
     let start = known .before in
-    given-placed slotCount (start .args .bytes .now) (start .pre) (λ i. omega (arith, known .shared-slice-known .given i))
+    given-placed slotCount (start .args .edition) (start .args .bytes .now) (start .pre) (λ i. omega (arith, known .shared-slice-known .given i))
     (decoded .decode .ensures) (checked .check-placed .ensures) (rw (c .if1 .taken))
 
 returns-2 : tie.Need-returns-2
@@ -21,7 +21,7 @@ returns-2 c =
     let decoded = checked .before .before in
     let known = decoded .before in
     let start = known .before in
-    given-placed slotCount (start .args .bytes .now) (start .pre) (λ i. omega (arith, known .shared-slice-known .given i))
+    given-placed slotCount (start .args .edition) (start .args .bytes .now) (start .pre) (λ i. omega (arith, known .shared-slice-known .given i))
     (decoded .decode .ensures) (checked .check-placed .ensures) (rw (c .if1 .left))
 
 pub judged-spec : {M : Type 1} → statement M

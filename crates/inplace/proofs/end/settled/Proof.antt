@@ -84,7 +84,7 @@ returns c =
     let call = c .before .before in
     let last = call .before .before .before in
     let a = last .before .before .before .args in
-    dispatched-does (tableOf slotCount (endBytes slotCount (a .image .now) (a .count .now) (a .c) (a .turn))) (a .turn .effect)
+    dispatched-does (tableOf slotCount (a .edition) (endBytes slotCount (a .image .now) (a .count .now) (a .c) (a .turn))) (a .turn .effect)
     (rw (ended last .0) at (call .dispatch .ensures))
 
 pub settled-spec : {M : Type 1} → statement M
