@@ -15,27 +15,21 @@ begin() { # WHAT comes by standard input, and HOW the command is called
     trap 'exit 2' HUP INT TERM
 }
 
-# Proves and builds the program where it is missing. What rt says goes to a log, and each crate is named as it ends.
+# Proves and builds the program where it is missing. What rt says goes to a log, and each crate is named as it begins.
 build() {
-    built=$root/target/bin/$program
+    built=$root/crates/$program/out/$program
     [ ! -x "$built" ] || return 0
-    command -v rt >/dev/null 2>&1 || die "target/bin/$program is not built, and there is no rt to build it with"
-    echo "$name: proving and building target/bin/$program, which takes some minutes; each crate is named as it ends" >&2
+    command -v rt >/dev/null 2>&1 || die "crates/$program/out/$program is not built, and there is no rt to build it with"
+    echo "$name: proving and building crates/$program/out/$program, which takes some minutes; each crate is named as it begins" >&2
     mkdir -p "$root/target" || exit 1
-    { (cd "$root" && rt check "$program") </dev/null 2>&1; echo $? >"$room/status"; } | tee "$root/target/$name.log" | while IFS= read -r line; do
-        case $line in 'rt: '*) printf '%s: %s\n' "$name" "${line#rt: }" >&2 ;; esac
+    # rt runs what it has built, here on no input.
+    { (cd "$root/crates/$program" && rt run) </dev/null 2>&1; echo $? >"$room/status"; } | tee "$root/target/$name.log" | while IFS= read -r line; do
+        case $line in 'rt: chose --jobs '*) printf '%s: %s\n' "$name" "${line##* }" >&2 ;; esac
     done
-    [ "$(cat "$room/status")" = 0 ] || die "rt check $program failed: see target/$name.log"
+    [ "$(cat "$room/status")" = 0 ] && [ -x "$built" ] || die "rt run of $program failed: see target/$name.log"
 }
 
-# Runs the program. It is for x86-64; elsewhere the kit has a loader, a C library and an emulator beside its compiler.
+# Runs the program, which is for x86-64.
 step() { # [WORD]
-    case $(uname -m) in
-    x86_64 | amd64) "$built" "$@" ;;
-    *)
-        tools=$(dirname -- "$(dirname -- "$(rt doc)")")/on/$(uname -m)/toolchain
-        [ -x "$tools/bin/qemu-x86_64" ] || die "the kit has no emulator for x86-64 programs"
-        "$tools/bin/qemu-x86_64" "$tools/lib/ld-linux-x86-64.so.2" --library-path "$tools/lib" "$built" "$@"
-        ;;
-    esac
+    "$built" "$@"
 }

@@ -24,11 +24,10 @@ all_known() { # COMMAND WORDS..
     done
 }
 
-# Where the kit stands, the folder of its compiler within it, and the compiler.
+# The folder of the kit's compiler, and the compiler.
 find_kit() {
-    kit=$(dirname "$(dirname "$(rt doc)")")
-    tools=on/$(uname -m)/toolchain
-    clang=$kit/$tools/bin/clang
+    tools=$(dirname "$(rt doc)")/toolchain
+    clang=$tools/bin/clang
 }
 
 # A bare program starts at the address ORIGIN; it has its C library, and board/bare.c for a system.

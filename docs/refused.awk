@@ -77,17 +77,31 @@ function verdict(text,    due, had) {
     return "shape\t" short(text)
 }
 
-function told(    words) {
+function row(kind, place, name, words) {
+    rows[++count] = kind "\t" place "\t" name "\t" words
+}
+
+# what is left to show, without the way that leads there
+function stem(name) {
+    sub(/-(then|else)-.*$/, "", name)
+    return name
+}
+
+function told(    words, after, i, n) {
     if (place == "") return
+    if (text ~ /\.Goals` has no `/) lost[stem(quoted(text, "has no "))]
     words = verdict(text)
-    print substr(words, 1, index(words, "\t") - 1) "\t" place "\t" name "\t" substr(words, index(words, "\t") + 1)
+    after = text
+    n = sub(/^.*which was not admitted, w(as|ere) not checked: /, "", after) ? split(after, names, /,? +/) : 0
+    for (i = 1; i <= n; i++) if (names[i] != "") row("follows", place, names[i], substr(words, index(words, "\t") + 1))
+    if (!n) row(substr(words, 1, index(words, "\t") - 1), place, name, substr(words, index(words, "\t") + 1))
     place = ""
 }
 
 /^[^ ].*: error: / {
     told()
     place = substr($0, 1, index($0, ": error: ") - 1)
-    sub(/^.*\/(src|specs|proofs)\//, "", place)
+    sub(/^(.*\/)?(src|specs|proofs)\//, "", place)
     text = substr($0, index($0, ": error: ") + 9)
     name = ""
     if (match(text, /^`[^`]*`: /)) {
@@ -98,10 +112,17 @@ function told(    words) {
 }
 /^  / { text = text " " $0; next }
 
-# a function that is proved without a file: the needs that are left, what was said of each, and then the function
+# What is left to show of a function, what was said of each, and then the function. Where an answer of the function has a name that is gone,
+# what it would have to show may be left for that alone, and does not count unless it is false somewhere.
 /^note: .*: it is not proved that / {
     told()
-    sub(/^.*it is not proved that /, "")
+    sub(/^.*: it is not proved that /, "")
+    need[++needs] = $0
+    next
+}
+/^note: .*: `search` found no proof \(/ {
+    told()
+    sub(/^.*: `search` found no proof /, "no proof is found ")
     need[++needs] = $0
     next
 }
@@ -110,16 +131,52 @@ function told(    words) {
     if (text ~ /the goal fails, at/) need[needs] = need[needs] "; omega: " numbers(text)
     said = 0
 }
-/^fn .*: no proof: expected / {
+/^fn .*: (no proof: expected |not proved$)/ {
+    told()
     place = $0
-    sub(/;.*$/, "", place); sub(/^.*\/proofs\//, "", place)
-    for (i = 1; i <= needs; i++) {
-        name = quoted(need[i], "(")
-        sub(/ \(`[^`]*`\)/, "", need[i])
-        print "fact\t" place ":0:0\t" name "\tnot proved is that " need[i]
+    answered = place ~ /: not proved$/
+    if (answered) {
+        sub(/^fn [^:]*::/, "", place); sub(/: not proved$/, "", place); gsub(/::/, "/", place)
+        place = place "/Answers.antt"
+    } else {
+        sub(/;.*$/, "", place); sub(/^.*\/proofs\//, "", place)
     }
+    for (i = 1; i <= needs; i++) {
+        name = match(need[i], /\(`[^`]*`\)/) ? substr(need[i], RSTART + 2, RLENGTH - 4) : ""
+        sub(/ \(`[^`]*`\)/, "", need[i])
+        false_at = sub(/; the facts known there allow values at which this goal is false/, "", need[i])
+        if (answered && !false_at && stem(name) in lost) continue
+        if (!sub(/^no proof is found.*$/, "no proof is found", need[i])) need[i] = "not proved is that " need[i]
+        row("fact", place ":0:0", name, need[i])
+        row_of[place, name] = count
+    }
+    for (name in lost) delete lost[name]
     needs = 0
     place = ""
 }
+/^note: `[^`]*` of proofs\/[^ ]* must prove: / {
+    told()
+    name = quoted($0, "note: ")
+    place = $4
+    sub(/^proofs\//, "", place)
+    text = $0
+    sub(/^.* must prove: /, "", text)
+    if ((place, name) in row_of && rows[row_of[place, name]] ~ /\tno proof is found$/) rows[row_of[place, name]] = rows[row_of[place, name]] " of " short(text)
+    place = ""
+}
+/^note: `[^`]*` of proofs\/[^ ]* may be false: the known facts allow / {
+    told()
+    name = quoted($0, "note: ")
+    place = $4
+    sub(/^proofs\//, "", place)
+    text = $0
+    sub(/^.*the known facts allow /, "the goal fails, at ", text)
+    while (match(text, /= `[0-9]+`/)) text = substr(text, 1, RSTART + 1) substr(text, RSTART + 3, RLENGTH - 4) substr(text, RSTART + RLENGTH)
+    if ((place, name) in row_of) rows[row_of[place, name]] = rows[row_of[place, name]] ": " numbers("x " text)
+    place = ""
+}
 { told() }
-END { told() }
+END {
+    told()
+    for (i = 1; i <= count; i++) print rows[i]
+}

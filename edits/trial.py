@@ -1,36 +1,22 @@
 """What edits/run and mutants/run share: a changed copy of a crate, checked in seconds over what an earlier check of the crate left,
-and what the prover said of it."""
-import os, pathlib, shutil, subprocess, sys
+and what the prover said of it. The copies stand outside the repository, since rt ci reads every source below it."""
+import atexit, os, pathlib, shutil, signal, subprocess, sys, tempfile
+
+sys.dont_write_bytecode = True
+sys.path.append(str(pathlib.Path(__file__).resolve().parent.parent / "tools"))
+from rattle import ROOT, depends, kit, words
 
 LIMIT = 900
-ROOT = pathlib.Path(__file__).resolve().parent.parent
 JOBS = int(os.environ.get("RT_JOBS") or os.cpu_count() or 1)
-
-
-def kit():
-    """The kit's folder, and the one in it for this machine."""
-    try:
-        home = pathlib.Path(subprocess.run(["rt", "doc"], capture_output=True, text=True, check=True).stdout.strip()).parent.parent
-    except (OSError, subprocess.CalledProcessError):
-        sys.exit("rt is missing: install the Rattle kit and put its bin/ on PATH")
-    return home, home / "on" / os.uname().machine if (home / "on").is_dir() else home
-
-
-def depends():
-    """The crates of crates.txt in their order, each with what it names there."""
-    lines = [line.split("#")[0].partition(":") for line in (ROOT / "crates.txt").read_text().split("\n")]
-    return {name.strip(): deps.split() for name, colon, deps in lines if colon}
+COPIES = pathlib.Path(tempfile.mkdtemp(prefix="bredonych-"))
+atexit.register(shutil.rmtree, COPIES, ignore_errors=True)
+signal.signal(signal.SIGTERM, lambda *_: sys.exit(2))
 
 
 def wrong_word(command, why):
     """Ends a command that was given a wrong word."""
     print(f"{command}: {why} ({command} --help)", file=sys.stderr)
     sys.exit(2)
-
-
-def root_of(folder):
-    program = folder / "src" / "main.rt"
-    return program if program.exists() else folder / "src" / "lib.rt"
 
 
 def copied(crate, where):
@@ -41,48 +27,49 @@ def copied(crate, where):
             shutil.copytree(ROOT / "crates" / crate / part, where / part)
 
 
-def asked(command, log, where=ROOT):
+def asked(command, log, where):
     """Runs a command; its exit status, None where it took too long."""
     with open(log, "w") as out:
         try:
-            return subprocess.run(command, stdout=out, stderr=subprocess.STDOUT, cwd=where, timeout=LIMIT).returncode
+            return subprocess.run(command, stdin=subprocess.DEVNULL, stdout=out, stderr=subprocess.STDOUT, cwd=where, timeout=LIMIT).returncode
         except subprocess.TimeoutExpired:
             return None
 
 
 def checked(crate, where, log, over=None):
-    """A check of a crate's folder, as rt does it: from nothing, or over an incremental folder."""
-    home, own = kit()
-    words = ["--crate-name", crate, str(root_of(where)), "--extern", f"std={own}/rlib/std.rlib"]
-    for name in depends()[crate]:
-        room = ROOT / "target" if (ROOT / "crates" / name).is_dir() else own
-        words += ["--extern", f"{name}={room}/rlib/{name}.rlib"]
-    words += ["-L", f"dependency={ROOT}/target/rlib", "-L", f"dependency={own}/rlib"]
-    words += ["--antt-project", str(home / "logic" / "antt-project.json"), "--logic-built", str(own / "logic-built")]
-    if over:
-        words += ["--incremental", str(over)]
-    return asked([str(own / "bin" / "rattle"), "check"] + words, log)
+    """A check of a crate's text at `where`, as rt does it: from nothing, or over an incremental folder."""
+    more = ["--incremental", str(over)] if over else []
+    return asked([str(kit() / "bin" / "rattle"), "check", *words(crate), "--jobs", "1", *more], log, where)
+
+
+def linked(folder, to):
+    """A copy of an incremental folder; what was proved by links, since a check replaces such a file and changes none."""
+    copy = lambda one, other: os.link(one, other) if one.endswith(".oantt") and os.stat(one).st_dev == os.stat(COPIES).st_dev else shutil.copy2(one, other)
+    shutil.rmtree(to, ignore_errors=True)
+    shutil.copytree(folder, to, copy_function=copy)
+
+
+SEEDS = {}
 
 
 def kept(crate):
-    """The incremental folder that the crate as it stands leaves; made where it is missing or older than the crate."""
-    room = ROOT / "target" / "kept" / crate
-    stamp = ROOT / "target" / "stamp" / crate
-    if not stamp.exists():
-        sys.exit(f"{crate} is not proved yet: rt check {crate}")
-    if not (room / "stamp").exists() or (room / "stamp").read_text() != stamp.read_text():
-        shutil.rmtree(room, ignore_errors=True)
-        room.mkdir(parents=True)
-        if checked(crate, ROOT / "crates" / crate, room / "log", room / "inc") != 0:
-            sys.exit(f"{crate} is not proved; target/kept/{crate}/log says why")
-        shutil.copy(stamp, room / "stamp")
-    return room / "inc"
+    """The incremental folder that the crate as it stands leaves. rt check proves it, and builds the crates below, where they have changed."""
+    if crate not in SEEDS:
+        log = ROOT / "target" / f"{crate}.log"
+        log.parent.mkdir(exist_ok=True)
+        if asked(["rt", "check"], log, ROOT / "crates" / crate) != 0:
+            sys.exit(f"{crate} is not proved: target/{crate}.log says why")
+        room = COPIES / f"{crate}.kept"
+        linked(ROOT / "crates" / crate / "out" / "incremental", room)
+        if checked(crate, ROOT / "crates" / crate, log, room) != 0:
+            sys.exit(f"{crate} is not proved; target/{crate}.log says why")
+        SEEDS[crate] = room
+    return SEEDS[crate]
 
 
 def quickly(crate, where, log, over):
     """A check of a changed copy, over a copy of what `kept` left; what is proved so is proved again from nothing."""
-    shutil.rmtree(over, ignore_errors=True)
-    shutil.copytree(kept(crate), over)
+    linked(kept(crate), over)
     status = checked(crate, where, log, over)
     return checked(crate, where, log) if status == 0 else status
 

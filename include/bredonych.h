@@ -1,4 +1,4 @@
-/* The kernel step for C and C++ hosts. Link target/staticlib/libentry.a (rt staticlib entry).
+/* The kernel step for C and C++ hosts. Link target/staticlib/libentry.a (host/library entry).
  *
  * A kernel is two buffers that the host keeps: the image, which is the task table as stored records, and the areas, 256
  * bytes of memory for each task, that of task 1 first. The host lends them for a call. The functions keep nothing between

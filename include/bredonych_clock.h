@@ -1,5 +1,5 @@
 /* The clock service for C and C++ hosts: a clock, its notifier and its clients, as tasks above the kernel of bredonych.h. Link
- * target/staticlib/libclock_tasks.a (rt staticlib clock_tasks) beside libentry.a. docs/CLOCK.md says what the clock does.
+ * target/staticlib/libclock_tasks.a (host/library clock_tasks) beside libentry.a. docs/CLOCK.md says what the clock does.
  *
  * Each task is a machine whose state the host keeps, as bytes. Two functions drive it, the same for each sort of task:
  *

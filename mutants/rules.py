@@ -8,12 +8,12 @@ BRANCH = "branch taken out"
 OPERATOR = "another operator"
 LEFT_OUT = "statement left out"
 
-TOKEN = re.compile(r"[(){};,⌜⌝]|[^\s(){};,⌜⌝]+")
-OPERATORS = {"≡", "≢", "+", "-", "*", "/", "%", "^", "&&", "||", "∷", "++", "→", "=", ":", "≤", "<", "×", "↔", "let", "in", "record", "λ", "⌜", "⌝", ";", ","}
+TOKEN = re.compile(r"[(){};,]|[^\s(){};,]+")
+OPERATORS = {"≡", "≢", "==", "+", "-", "*", "/", "%", "^", "&&", "||", "∷", "++", "→", "=", ":", "≤", "<", "×", "↔", "let", "in", "record", "λ", ";", ","}
 TYPE = r"[&\[]|u8$|u32$|u64$|usize$|bool$|[A-Z][a-z]+$"
 INSTEAD = {"&&": "||", "||": "&&", "+": "-", "-": "+", "*": "+", "min": "max", "max": "min"}
-SYMMETRIC = {"eqb", "min", "max"}
-TESTS = {"ltb": "leb", "leb": "ltb", "<": "≤", "≤": "<"}
+SYMMETRIC = {"eqb", "nat_eq", "min", "max"}
+TESTS = {"ltb": "leb", "leb": "ltb", "nat_lt": "nat_le", "nat_le": "nat_lt", "<": "≤", "≤": "<"}
 
 
 def off_by_one(text, start, end):
@@ -72,6 +72,8 @@ def of_terms(text, start, end, imported):
             yield TEST, (a, tokens[i + 1][1], "")
         if word in ("&&", "||"):
             right = atoms(tokens, i + 1)
+            if right and tokens[right[-1][1]:] and tokens[right[-1][1]][0] == "==":
+                right += atoms(tokens, right[-1][1] + 1)
             if right:
                 yield BRANCH, (a, part(right[-1])[1], "")
         if i in heads or word in OPERATORS or word in "(){}" or word.startswith("."):
@@ -100,7 +102,7 @@ def of_records(text, start, end):
 
 
 def known(name, imported):
-    return name in imported or f"_{name}_" in imported
+    return name in imported or f"◌{name}◌" in imported
 
 
 def of_specs(text):
@@ -170,8 +172,8 @@ def of_src(text):
         if re.match(r"\s*(//|use |ghost use |pub use |mod |pub mod |#|$)", line):
             continue
         if re.match(r"\s*(requires|ensures)\b", line):
-            a, b = line.index("⌜") + 1, line.rindex("⌝")
-            names = set(re.findall(r"_?[^\s,{}]+_?", " ".join(l for l, _ in lines if l.startswith("ghost use "))))
+            a, b = line.index("{") + 1, line.rindex("}")
+            names = set(re.findall(r"[^\s,{}]+", " ".join(l for l, _ in lines if l.startswith("ghost use "))))
             yield from of_terms(text, at + a, at + b, names)
         else:
             yield from of_code(line, at, text)

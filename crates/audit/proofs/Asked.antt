@@ -215,7 +215,7 @@ module _ (n ed : ℕ) (b : List ℕ) (whole : length b ≡ n * record_length) (s
           least = omega arith;
           most = good.rules.tasks.fits;
           before = λ s _ l.
-              let some = ltb-true 0 (state_code (task_at t s).state) (good.rules.tasks.each s l).is_used_lem in
+              let some = ltb-true 0 (state_code (task_at t s).state) (good.rules.tasks.each s l).in_use in
               ne_eqb (byte_at b s at_state) 0 (λ z. omega (arith, code s (omega (arith, good.rules.tasks.fits))));
           passes = λ l. eq-eqb _ 0 (unused (used_slots t) (omega arith) l);
         })

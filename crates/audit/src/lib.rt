@@ -1,4 +1,6 @@
 // Whether lent bytes are the image of a good table, told by passes over its records: no table is made of them.
+#![tactic(auto)]
+
 mod places;
 mod sound;
 mod survey;

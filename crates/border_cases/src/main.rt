@@ -1,11 +1,14 @@
 // The cases at the borders of what is allowed, in a run of each edition: its file `stdin` has their requests, and `stdout` the lines of
 // edition 1 and then those of edition 2.
+#![tactic(auto)]
+
+use chunks::read_full;
 use kernel::edition::{MANY_WAIT, ONE_WAITS};
-use libc::{STDIN_FILENO, STDOUT_FILENO};
 use lines::{fresh_block, show_block};
+use std::io;
 use tid::sizes::{AREA, SLOTS};
 
-fn run_in(edition: u32, records: &[u8]) {
+fn run_in(rt: &impl Print, edition: u32, records: &[u8]) -> io::Result<()> {
     let mut areas = [0u8; SLOTS * AREA];
     let mut out = [0u8; 8192];
     let block = show_block(
@@ -16,12 +19,12 @@ fn run_in(edition: u32, records: &[u8]) {
         false,
     );
     let end = block.end;
-    io::write_all(STDOUT_FILENO, &out[..end]);
+    rt.write_all(&out[..end])
 }
 
-fn main() {
+fn main(rt: HostRuntime) -> io::Result<()> {
     let mut records = [0u8; 2048];
-    let n = io::read_full(STDIN_FILENO, &mut records);
-    run_in(ONE_WAITS, &records[..n]);
-    run_in(MANY_WAIT, &records[..n]);
+    let n = read_full(&mut rt.reader(), &mut records)?;
+    run_in(&rt, ONE_WAITS, &records[..n])?;
+    run_in(&rt, MANY_WAIT, &records[..n])
 }

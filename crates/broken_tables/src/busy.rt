@@ -2,7 +2,7 @@
 use crate::put::task_of;
 use crate::text::NUMBERS;
 use kernel::table::{Request, Table};
-use libc::STDOUT_FILENO;
+use std::io;
 use task::parts::state_code;
 use tid::sizes::{AREA, SLOTS};
 use tid::tid_of;
@@ -23,20 +23,19 @@ pub(crate) fn asked(table: Table, n: [u32; NUMBERS]) -> Table {
 }
 
 // The number of a task's state.
-fn write_state(table: Table, s: usize) {
+fn write_state(rt: &impl Print, table: Table, s: usize) -> io::Result<()> {
     let task = task_of(table, tid_of(s));
-    let state = task.state;
-    io::write_all(STDOUT_FILENO, b" ");
-    io::print_decimal(STDOUT_FILENO, state_code(state) as u64);
+    let code = state_code(task.state);
+    print!(rt; " {code}")
 }
 
 // The states of all slots, so that the busy table is seen to be busy.
-pub(crate) fn write_states(table: Table) {
-    io::write_all(STDOUT_FILENO, b"states");
+pub(crate) fn write_states(rt: &impl Print, table: Table) -> io::Result<()> {
+    rt.print("states")?;
     let mut s = 0;
     while s < SLOTS {
-        write_state(table, s);
+        write_state(rt, table, s)?;
         s += 1;
     }
-    io::write_all(STDOUT_FILENO, b"\n");
+    println!(rt)
 }

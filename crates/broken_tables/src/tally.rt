@@ -3,7 +3,7 @@ use crate::put::with_edition;
 use kernel::edition::{MANY_WAIT, ONE_WAITS};
 use kernel::numbers::{ACCEPTED, EVENT};
 use kernel::table::{Request, Table};
-use libc::STDOUT_FILENO;
+use std::io;
 use std::num::wrapping_add_u64;
 use tid::sizes::{AREA, SLOTS};
 
@@ -42,28 +42,26 @@ fn verdict_without(table: Table) -> u8 {
     verdict_of(table, &mut areas)
 }
 
-fn write_verdict(verdict: u8) {
+fn write_verdict(rt: &impl Print, verdict: u8) -> io::Result<()> {
     if verdict == ACCEPTED {
-        io::write_all(STDOUT_FILENO, b"accepted");
-    } else {
-        io::write_all(STDOUT_FILENO, b"refused by ");
-        io::print_decimal(STDOUT_FILENO, verdict as u64);
+        return rt.print("accepted");
     }
+    print!(rt; "refused by {verdict}")
 }
 
 // A case by its name, which stands behind two bytes of its line, and the verdict of the first step; where that of the second is another,
 // words that say what it was asked of, and it.
-fn write_case(line: &[u8], first: u8, words: &[u8], second: u8) {
+fn write_case(rt: &impl Print, line: &[u8], first: u8, words: &str, second: u8) -> io::Result<()> {
     if 2 <= line.len() {
-        io::write_all(STDOUT_FILENO, &line[2..]);
+        rt.write_all(&line[2..])?;
     }
-    io::write_all(STDOUT_FILENO, b": ");
-    write_verdict(first);
+    rt.print(": ")?;
+    write_verdict(rt, first)?;
     if first != second {
-        io::write_all(STDOUT_FILENO, words);
-        write_verdict(second);
+        rt.print(words)?;
+        write_verdict(rt, second)?;
     }
-    io::write_all(STDOUT_FILENO, b"\n");
+    println!(rt)
 }
 
 fn one_if(counted: bool) -> u64 {
@@ -93,28 +91,35 @@ impl Tally {
 
     // Writes and counts what two steps say of a table. Of a line that begins with 0 it is asked in its own edition, which is none, and then
     // without areas; of any other in edition 1 and then in 2, where it is good in both behind +, in 2 alone behind 2, in neither behind -.
-    pub(crate) fn found(self, what: u8, line: &[u8], table: Table) -> Self {
+    pub(crate) fn found(
+        self,
+        rt: &impl Print,
+        what: u8,
+        line: &[u8],
+        table: Table,
+    ) -> io::Result<Self> {
         if what == b'0' {
             let first = verdict_in(table, table.edition);
             let second = verdict_without(table);
-            write_case(line, first, b", without areas ", second);
-            return self.counted(false, first).counted(false, second);
+            write_case(rt, line, first, ", without areas ", second)?;
+            return Ok(self.counted(false, first).counted(false, second));
         }
         let first = verdict_in(table, ONE_WAITS);
         let second = verdict_in(table, MANY_WAIT);
-        write_case(line, first, b", in edition 2 ", second);
-        self.counted(what == b'+', first)
-            .counted(what != b'-', second)
+        write_case(rt, line, first, ", in edition 2 ", second)?;
+        Ok(
+            self.counted(what == b'+', first)
+                .counted(what != b'-', second),
+        )
     }
 
-    pub(crate) fn write(self) {
-        io::print_decimal(STDOUT_FILENO, self.refused);
-        io::write_all(STDOUT_FILENO, b" of ");
-        io::print_decimal(STDOUT_FILENO, self.broken);
-        io::write_all(STDOUT_FILENO, b" steps of broken tables refused, ");
-        io::print_decimal(STDOUT_FILENO, self.accepted);
-        io::write_all(STDOUT_FILENO, b" of ");
-        io::print_decimal(STDOUT_FILENO, self.good);
-        io::write_all(STDOUT_FILENO, b" of good ones accepted\n");
+    pub(crate) fn write(self, rt: &impl Print) -> io::Result<()> {
+        let refused = self.refused;
+        let broken = self.broken;
+        let accepted = self.accepted;
+        let good = self.good;
+        println!(rt;
+            "{refused} of {broken} steps of broken tables refused, {accepted} of {good} of good ones accepted"
+        )
     }
 }

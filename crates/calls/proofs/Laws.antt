@@ -63,9 +63,9 @@ hosts_alike k bytes bytes' areas areas' ls ls' started started' size same =
 pub host_bytes_have_origins : HostBytesHaveOrigins
 host_bytes_have_origins k bytes areas ls started =
     let u = run_from k areas ls in
-    let areasOf : Call → List ℕ = λ c. c.areas in
+    let areas_of : Call → List ℕ = λ c. c.areas in
     bytes_have_origins (fresh_of k) areas (requests_of ls)
-    ∙ sym (ap (λ cs. last_of areas (map areasOf cs)) (calls_are_run k bytes areas ls started) ∙ ap (last_of areas) (map-map areasOf as_call u))
+    ∙ sym (ap (λ cs. last_of areas (map areas_of cs)) (calls_are_run k bytes areas ls started) ∙ ap (last_of areas) (map-map areas_of as_call u))
     ∙ last_taken slot_count k.edition (good_start k bytes started).0.edition ls _ areas
 
 pub lines_alike : LinesAlike

@@ -1,8 +1,11 @@
-// How the programs that run cases read and write them, in words and chunks. A word is a number of four bytes, the lowest first; a chunk is a
-// word, its length, and that many bytes.
-ghost use Rattle.std.specs.Prelude.{◌<◌, ◌≤◌};
+// How the programs read their input, and how those that run cases read and write them: in words and chunks. A word is a number of four bytes,
+// the lowest first; a chunk is a word, its length, and that many bytes.
+#![tactic(auto)]
 
-use libc::{STDERR_FILENO, STDIN_FILENO, STDOUT_FILENO};
+ghost use Rattle.std.specs.Prelude.{◌<◌, ◌≤◌, IfOk, length};
+
+use std::io;
+use std::io::Read;
 
 // How many bytes a word has, and the largest that there is.
 const WORD: usize = 4;
@@ -19,6 +22,21 @@ pub const ENDED: usize = LARGEST + 1;
 const SHORT: usize = LARGEST + 2;
 
 const LONG: usize = LARGEST + 3;
+
+// Reads until the buffer is full or the input ends, and answers how many bytes it put at the buffer's start.
+pub fn read_full<R: Read>(from: &mut R, buffer: &mut [u8]) -> io::Result<usize>
+    ensures { IfOk result (λ n. n ≤ length buffer.new) }
+{
+    let mut done = 0;
+    while done < buffer.len() {
+        let n = from.read(&mut buffer[done..])?;
+        if n == 0 {
+            break;
+        }
+        done += n;
+    }
+    Ok(done)
+}
 
 // A byte as a number. As a function it asks no proof that a slice's element fits.
 fn wide(x: u8) -> usize
@@ -37,56 +55,56 @@ fn number_of(b: &[u8; WORD]) -> usize
 }
 
 // Reads a word, and answers its number, or why there is none.
-pub fn read_word() -> usize {
+pub fn read_word<R: Read>(from: &mut R) -> io::Result<usize> {
     let mut bytes = [0u8; WORD];
-    let got = io::read_full(STDIN_FILENO, &mut bytes);
+    let got = read_full(from, &mut bytes)?;
     if got == 0 {
-        return ENDED;
+        return Ok(ENDED);
     }
     if got < WORD {
-        return SHORT;
+        return Ok(SHORT);
     }
-    number_of(&bytes)
+    Ok(number_of(&bytes))
 }
 
 // Reads a chunk into the buffer's start, and answers its length, or why there is none.
-pub fn read_chunk(buffer: &mut [u8]) -> usize {
-    let n = read_word();
+pub fn read_chunk<R: Read>(from: &mut R, buffer: &mut [u8]) -> io::Result<usize> {
+    let n = read_word(from)?;
     if LARGEST < n {
-        return n;
+        return Ok(n);
     }
     if MOST < n {
-        return LONG;
+        return Ok(LONG);
     }
     if buffer.len() < n {
-        return LONG;
+        return Ok(LONG);
     }
-    let count = io::read_full(STDIN_FILENO, &mut buffer[..n]);
-    if count < n { SHORT } else { n }
+    let count = read_full(from, &mut buffer[..n])?;
+    Ok(if count < n { SHORT } else { n })
 }
 
 // Says why a program does not run a case, by what stands in place of a word or a length.
-pub fn complain(program: &[u8], n: usize) {
-    io::write_all(STDERR_FILENO, program);
+pub fn complain(rt: &impl Eprint, program: &str, n: usize) -> io::Result<()> {
     if n == LONG {
-        io::write_all(STDERR_FILENO, b": a chunk is longer than 16384 bytes\n");
+        eprintln!(rt; "{program}: a chunk is longer than 16384 bytes")
     } else {
-        io::write_all(STDERR_FILENO, b": the last case is cut short\n");
+        eprintln!(rt; "{program}: the last case is cut short")
     }
 }
 
-// Writes a word. Answers whether all was written.
-pub fn write_word(n: usize) -> bool {
+// Writes a word.
+pub fn write_word(rt: &impl Print, n: usize) -> io::Result<()> {
     let bytes = [
         (n % 256) as u8,
         (n / 256 % 256) as u8,
         (n / 65536 % 256) as u8,
         (n / 16777216 % 256) as u8,
     ];
-    io::write_all(STDOUT_FILENO, &bytes)
+    rt.write_all(&bytes)
 }
 
-// Writes a chunk. Answers whether all was written.
-pub fn write_chunk(bytes: &[u8]) -> bool {
-    write_word(bytes.len()) && io::write_all(STDOUT_FILENO, bytes)
+// Writes a chunk.
+pub fn write_chunk(rt: &impl Print, bytes: &[u8]) -> io::Result<()> {
+    write_word(rt, bytes.len())?;
+    rt.write_all(bytes)
 }

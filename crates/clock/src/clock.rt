@@ -17,7 +17,7 @@ pub struct Clock {
 }
 
 // What a message asks. A delay is a signed word.
-#[derive(Drop)]
+#[derive(Clone, Copy, Drop)]
 pub enum Asked {
     Tick,
     Time,
@@ -27,7 +27,7 @@ pub enum Asked {
 }
 
 // What an answer says. A refusal is 2, 3 or 4, for -2, -3 or -4.
-#[derive(Drop)]
+#[derive(Clone, Copy, Drop)]
 pub enum Said {
     Count(u32),
     Refused(u8),
@@ -61,6 +61,7 @@ impl Clock {
     }
 
     // What a message does, and who is answered.
+    #[tactic(auto, unfolding(crate::specs::Clock::hear))]
     pub fn hear(self, from: u32, asked: Asked) -> Heard
         ensures { result ≡ Spec.hear self from asked }
     {

@@ -19,6 +19,7 @@ const DELAY: u32 = 3;
 const UNTIL: u32 = 4;
 
 // What a message of a length asks, of which at least the first bytes are at hand.
+#[tactic(auto, unfolding(crate::specs::Message::asked_in))]
 pub fn asked_in(length: u32, bytes: &[u8]) -> Asked
     ensures { result ≡ asked_in length bytes.now }
 {
@@ -29,6 +30,7 @@ pub fn asked_in(length: u32, bytes: &[u8]) -> Asked
 }
 
 // What the two words of a message ask.
+#[tactic(auto, unfolding(crate::specs::Message::asked_by))]
 pub fn asked_by(op: u32, arg: u32) -> Asked
     ensures { result ≡ asked_by op arg }
 {
@@ -117,7 +119,7 @@ pub fn answer_byte(said: Said, k: u8) -> u8
 }
 
 // What an answer means to the one who asked.
-#[derive(Drop)]
+#[derive(Clone, Copy, Drop)]
 pub enum Meaning {
     Count(u32),
     Refused(u8),
@@ -206,6 +208,7 @@ fn fitting(asked: Asked, meaning: Meaning) -> Meaning
 }
 
 // What the two words of an answer mean.
+#[tactic(auto, unfolding(crate::specs::Message::words_mean))]
 fn words_mean(status: u32, count: u32) -> Meaning
     ensures { result ≡ words_mean status count }
 {

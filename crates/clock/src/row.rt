@@ -10,21 +10,21 @@ pub const ROOM: usize = 16;
 pub const HEARERS: usize = ROOM + 1;
 
 // Who sleeps, and at which count it is due.
-#[derive(Drop)]
+#[derive(Clone, Copy, Drop)]
 pub struct Sleeper {
     pub tid: u32,
     pub due: u32,
 }
 
 // Who sleeps, in order of arrival. The places past the end hold zeros.
-#[derive(Drop)]
+#[derive(Clone, Copy, Drop)]
 pub struct Row {
     pub places: [Sleeper; ROOM],
     pub len: usize,
 }
 
 // Who is to be answered, in this order. The places past the end hold 0.
-#[derive(Drop)]
+#[derive(Clone, Copy, Drop)]
 pub struct Hearers {
     pub tids: [u32; HEARERS],
     pub len: usize,
@@ -41,6 +41,7 @@ impl Row {
     }
 
     // A sleeper comes last; a full row stays as it is.
+    #[tactic(auto, unfolding(crate::specs::Row::pushed_row))]
     pub(crate) fn pushed(mut self, x: Sleeper) -> Self
         ensures { result ≡ pushed_row self x }
     {
@@ -96,6 +97,7 @@ impl Hearers {
     }
 
     // A tid comes last; where all places are taken, nothing changes.
+    #[tactic(auto, unfolding(crate::specs::Row::pushed_hearers))]
     pub(crate) fn pushed(mut self, tid: u32) -> Self
         ensures { result ≡ pushed_hearers self tid }
     {

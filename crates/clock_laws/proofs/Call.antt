@@ -17,7 +17,7 @@ use Rattle.server.specs.Phase.{ask}
 use Rattle.clock_tasks.specs.declared.client.Stage.{Stage}
 use Rattle.clock_tasks.specs.declared.client.Stage.TheVariants.{Writing, Sending, Sent, Ended}
 use Rattle.clock_tasks.specs.declared.client.Client.{Client}
-use Rattle.clock_tasks.specs.Client.{request_in, after, asked, answered_in, told_in, told}
+use Rattle.clock_tasks.specs.Client.{request_in, after, answered_in, told_in}
 use Rattle.clock_tasks.specs.ClientState.{last_offset}
 use Rattle.clock_tasks.specs.Laws.{client_machine}
 use Rattle.clock_laws.specs.Laws.{CallIsSent}

@@ -1,5 +1,5 @@
 -- A call's words are read back as the call, whatever it is told.
-use Rattle.std.proofs.Common.{◌≡◌, ℕ, ◌+◌, ◌<◌, ◌≤◌, min, true, false, not, eqb, ltb, leb, List, [], ◌∷◌, length, get_or, drop, sym, refl, ap, ◌∙◌, arith, get_or-drop, ltb-true, le-leb}
+use Rattle.std.proofs.Common.{◌≡◌, ℕ, ◌+◌, ◌<◌, ◌≤◌, min, true, not, eqb, ltb, leb, List, [], ◌∷◌, length, get_or, drop, sym, refl, ap, ◌∙◌, arith, get_or-drop, ltb-true, le-leb}
 use mathlib.Core.Bool.{false≢true}
 use Rattle.queue.specs.Choose.{choose}
 use Rattle.queue.proofs.Below.{true_both}

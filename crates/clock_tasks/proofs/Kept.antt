@@ -132,7 +132,7 @@ module _ {S : Type 0} {m : Machine S} {n : ℕ} {words : S → List ℕ} {from :
     is_kept h none = refl
     is_kept {s} h (more {x = asks out} room rest) =
         by_test (over s)
-        (λ e. rw (asks_one h out room, e, is_kept h rest))
-        (λ e. rw (asks_one h out room, e, is_kept (k.asked h) rest))
+        (λ e. rw (asks_one h out room, e, is_kept {s = s} h rest))
+        (λ e. rw (asks_one h out room, e, is_kept {s = m.asked s} (k.asked h) rest))
     is_kept {s} h (more {x = tells answer area} ((a, bytes), (b, found)) rest) =
-        rw (tells_one h answer area a b, is_kept (k.told h (result_in answer) area (told_in_lem bytes) found) rest)
+        rw (tells_one h answer area a b, is_kept {s = m.told s (result_in answer) area} (k.told h (result_in answer) area (told_in_lem bytes) found) rest)

@@ -10,7 +10,7 @@ use server::phase::ask;
 use task::task::Result;
 
 // A byte of the message is written; it is sent; the answer is waited for; or the call is over.
-#[derive(Drop)]
+#[derive(Clone, Copy, Drop)]
 pub enum Stage {
     Writing(u8),
     Sending,
@@ -18,7 +18,7 @@ pub enum Stage {
     Ended,
 }
 
-#[derive(Drop)]
+#[derive(Clone, Copy, Drop)]
 pub struct Client {
     // Whom it asks, and what.
     pub clock: u32,

@@ -42,14 +42,8 @@ fn is_ended(stage: Stage) -> bool
 }
 
 // A call by an op and its argument, whose message is to stand at an offset of the client's own area.
-#[unsafe(no_mangle)]
-pub extern "C" fn client_start(
-    clock: u32,
-    op: u32,
-    argument: u32,
-    offset: u32,
-    state: &mut [u8],
-) -> u32
+#[tactic(auto, unfolding(crate::specs::Calls::client_start))]
+pub fn client_start(clock: u32, op: u32, argument: u32, offset: u32, state: &mut [u8]) -> u32
     ensures { kept result state.new ≡ client_start clock op argument offset state.old }
 {
     let asked = asked_by(op, argument);
@@ -67,8 +61,8 @@ pub extern "C" fn client_start(
 }
 
 // What it asks next, as a request of the kernel; nothing once it is over.
-#[unsafe(no_mangle)]
-pub extern "C" fn client_asks(state: &mut [u8], request: &mut [u8]) -> u32
+#[tactic(auto, unfolding(crate::specs::Calls::client_asks))]
+pub fn client_asks(state: &mut [u8], request: &mut [u8]) -> u32
     ensures { written result state.new request.new ≡ client_asks state.old request.old }
 {
     if request.len() != REQUEST {
@@ -89,8 +83,8 @@ pub extern "C" fn client_asks(state: &mut [u8], request: &mut [u8]) -> u32
 }
 
 // What it is told by the kernel's answer, and its own area.
-#[unsafe(no_mangle)]
-pub extern "C" fn client_told(state: &mut [u8], answer: &[u8], area: &[u8]) -> u32
+#[tactic(auto, unfolding(crate::specs::Calls::client_told))]
+pub fn client_told(state: &mut [u8], answer: &[u8], area: &[u8]) -> u32
     ensures { kept result state.new ≡ client_told state.old answer.now area.now }
 {
     if answer.len() != ANSWER {
@@ -109,8 +103,8 @@ pub extern "C" fn client_told(state: &mut [u8], answer: &[u8], area: &[u8]) -> u
 }
 
 // What came of it, 0 0 while it is not over.
-#[unsafe(no_mangle)]
-pub extern "C" fn client_outcome(state: &[u8], outcome: &mut [u8]) -> u32
+#[tactic(auto, unfolding(crate::specs::Calls::client_outcome))]
+pub fn client_outcome(state: &[u8], outcome: &mut [u8]) -> u32
     ensures { kept result outcome.new ≡ client_outcome state.now outcome.old }
 {
     if outcome.len() != OUTCOME {

@@ -10,8 +10,8 @@ use server::records::{put_request, result_in};
 use tid::sizes::{AREA, PRIORITIES};
 
 // A clock that is to make a notifier of a priority.
-#[unsafe(no_mangle)]
-pub extern "C" fn clock_start(priority: u32, state: &mut [u8]) -> u32
+#[tactic(auto, unfolding(crate::specs::Calls::clock_start))]
+pub fn clock_start(priority: u32, state: &mut [u8]) -> u32
     ensures { kept result state.new ≡ clock_start priority state.old }
 {
     if PRIORITIES <= priority as usize {
@@ -25,8 +25,8 @@ pub extern "C" fn clock_start(priority: u32, state: &mut [u8]) -> u32
 }
 
 // What it asks next, as a request of the kernel.
-#[unsafe(no_mangle)]
-pub extern "C" fn clock_asks(state: &mut [u8], request: &mut [u8]) -> u32
+#[tactic(auto, unfolding(crate::specs::Calls::clock_asks))]
+pub fn clock_asks(state: &mut [u8], request: &mut [u8]) -> u32
     ensures { written result state.new request.new ≡ clock_asks state.old request.old }
 {
     if request.len() != REQUEST {
@@ -42,8 +42,8 @@ pub extern "C" fn clock_asks(state: &mut [u8], request: &mut [u8]) -> u32
 }
 
 // What it is told by the kernel's answer, with its own area.
-#[unsafe(no_mangle)]
-pub extern "C" fn clock_told(state: &mut [u8], answer: &[u8], area: &[u8]) -> u32
+#[tactic(auto, unfolding(crate::specs::Calls::clock_told))]
+pub fn clock_told(state: &mut [u8], answer: &[u8], area: &[u8]) -> u32
     ensures { kept result state.new ≡ clock_told state.old answer.now area.now }
 {
     if answer.len() != ANSWER {

@@ -1,4 +1,6 @@
 // The clock, its notifier and its clients as tasks above the kernel, for C hosts.
+#![tactic(auto)]
+
 mod client;
 pub mod client_calls;
 mod client_state;

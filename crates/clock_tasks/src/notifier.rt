@@ -11,7 +11,7 @@ use task::task::Result;
 
 // What is asked next: who made it; a byte of the tick's message, once for all; the event; the Send. Asked, Waiting and Sent are those of
 // them that it waits to be told of.
-#[derive(Drop)]
+#[derive(Clone, Copy, Drop)]
 pub enum Duty {
     Asking,
     Asked,
@@ -22,7 +22,7 @@ pub enum Duty {
     Sent,
 }
 
-#[derive(Drop)]
+#[derive(Clone, Copy, Drop)]
 pub struct Notifier {
     pub event: u8,
     // Whom it sends ticks.

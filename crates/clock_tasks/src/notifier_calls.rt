@@ -10,8 +10,8 @@ use server::records::{put_request, result_in};
 use tid::sizes::{AREA, EVENTS};
 
 // A notifier that is to send ticks of an event.
-#[unsafe(no_mangle)]
-pub extern "C" fn notifier_start(event: u32, state: &mut [u8]) -> u32
+#[tactic(auto, unfolding(crate::specs::Calls::notifier_start))]
+pub fn notifier_start(event: u32, state: &mut [u8]) -> u32
     ensures { kept result state.new ≡ notifier_start event state.old }
 {
     if EVENTS <= event as usize {
@@ -25,8 +25,8 @@ pub extern "C" fn notifier_start(event: u32, state: &mut [u8]) -> u32
 }
 
 // What it asks next, as a request of the kernel.
-#[unsafe(no_mangle)]
-pub extern "C" fn notifier_asks(state: &mut [u8], request: &mut [u8]) -> u32
+#[tactic(auto, unfolding(crate::specs::Calls::notifier_asks))]
+pub fn notifier_asks(state: &mut [u8], request: &mut [u8]) -> u32
     ensures { written result state.new request.new ≡ notifier_asks state.old request.old }
 {
     if request.len() != REQUEST {
@@ -43,8 +43,8 @@ pub extern "C" fn notifier_asks(state: &mut [u8], request: &mut [u8]) -> u32
 }
 
 // What it is told by the kernel's answer; of its own area it reads nothing.
-#[unsafe(no_mangle)]
-pub extern "C" fn notifier_told(state: &mut [u8], answer: &[u8], area: &[u8]) -> u32
+#[tactic(auto, unfolding(crate::specs::Calls::notifier_told))]
+pub fn notifier_told(state: &mut [u8], answer: &[u8], area: &[u8]) -> u32
     ensures { kept result state.new ≡ notifier_told state.old answer.now area.now }
 {
     if answer.len() != ANSWER {

@@ -2,47 +2,57 @@
 //
 // A conversion is a word, the edition, and two chunks, the image and the bytes that it is written into. For each the verdict is written as a
 // word, and then both chunks as the call left them.
+#![tactic(auto)]
+
 use chunks::{ENDED, LARGEST, MOST, complain, read_chunk, read_word, write_chunk, write_word};
 use entry::kernel_convert;
+use std::io;
+use std::io::Read;
 
 // Says why a case is not run, and that there is no other.
-fn refuse(n: usize) -> bool {
-    complain(b"convert_cases", n);
-    false
+fn refuse(rt: &impl Eprint, n: usize) -> io::Result<bool> {
+    complain(rt, "convert_cases", n)?;
+    Ok(false)
 }
 
-// Calls the entry on a conversion, and writes what it did. Answers whether all was written.
-fn call(edition: u32, image: &[u8], out: &mut [u8]) -> bool {
+// Calls the entry on a conversion, and writes what it did.
+fn call(rt: &impl Print, edition: u32, image: &[u8], out: &mut [u8]) -> io::Result<()> {
     let verdict = kernel_convert(edition, image, &mut *out);
-    write_word(verdict as usize) && write_chunk(image) && write_chunk(&*out)
+    write_word(rt, verdict as usize)?;
+    write_chunk(rt, image)?;
+    write_chunk(rt, &*out)
 }
 
 // One conversion. Answers whether to go on.
-fn run_case() -> bool {
-    let edition = read_word();
+fn run_case<R: Read>(rt: &(impl Print + Eprint), from: &mut R) -> io::Result<bool> {
+    let edition = read_word(from)?;
     if edition == ENDED {
-        return false;
+        return Ok(false);
     }
     if LARGEST < edition {
-        return refuse(edition);
+        return refuse(rt, edition);
     }
     let mut image = [0u8; MOST];
     let mut out = [0u8; MOST];
-    let a = read_chunk(&mut image);
+    let a = read_chunk(from, &mut image)?;
     if MOST < a {
-        return refuse(a);
+        return refuse(rt, a);
     }
-    let b = read_chunk(&mut out);
+    let b = read_chunk(from, &mut out)?;
     if MOST < b {
-        return refuse(b);
+        return refuse(rt, b);
     }
-    call(edition as u32, &image[..a], &mut out[..b])
+    call(rt, edition as u32, &image[..a], &mut out[..b])?;
+    Ok(true)
 }
 
 // A proved loop has to end, and nothing says that the input does.
-fn main() {
-    let mut turns = u64::MAX;
-    while 0 < turns && run_case() {
-        turns -= 1;
+fn main(rt: HostRuntime) -> io::Result<()> {
+    let mut from = rt.reader();
+    for _ in 0..u64::MAX {
+        if !run_case(&rt, &mut from)? {
+            break;
+        }
     }
+    Ok(())
 }

@@ -1,27 +1,30 @@
 // Damages the images of busy kernels byte by byte, and writes whether reading and a step refuse them.
+#![tactic(auto)]
+
 mod busy;
+mod bytewise;
 mod damage;
-mod records;
 mod waiters;
 mod whole;
 
 use crate::busy::busy;
-use crate::records::{write_cuts, write_heading, write_records};
+use crate::bytewise::{write_cuts, write_records};
 use crate::waiters::write_waiters;
 use crate::whole::{write_editions, write_lengths, write_wholes};
 use kernel::edition::{MANY_WAIT, ONE_WAITS};
+use std::io;
 
-fn write_damages(edition: u32) {
-    write_heading(edition);
-    write_records(edition, busy(edition));
-    write_cuts(edition, busy(edition));
+fn write_damages(rt: &impl Print, edition: u32) -> io::Result<()> {
+    println!(rt; "in edition {edition}")?;
+    write_records(rt, edition, busy(edition))?;
+    write_cuts(rt, edition, busy(edition))
 }
 
-fn main() {
-    write_damages(ONE_WAITS);
-    write_damages(MANY_WAIT);
-    write_lengths(busy(ONE_WAITS));
-    write_wholes(busy(ONE_WAITS));
-    write_waiters(busy(MANY_WAIT));
-    write_editions(busy(ONE_WAITS));
+fn main(rt: HostRuntime) -> io::Result<()> {
+    write_damages(&rt, ONE_WAITS)?;
+    write_damages(&rt, MANY_WAIT)?;
+    write_lengths(&rt, busy(ONE_WAITS))?;
+    write_wholes(&rt, busy(ONE_WAITS))?;
+    write_waiters(&rt, busy(MANY_WAIT))?;
+    write_editions(&rt, busy(ONE_WAITS))
 }

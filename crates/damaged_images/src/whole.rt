@@ -6,7 +6,7 @@ use image::form::reform;
 use image::stored::{IMAGE, read};
 use kernel::edition::{MANY_WAIT, ONE_WAITS};
 use kernel::numbers::EVENT;
-use libc::STDOUT_FILENO;
+use std::io;
 use tid::sizes::{AREA, SLOTS};
 
 const SEED: u32 = 2026;
@@ -25,34 +25,34 @@ fn step_verdict(edition: u32, image: &mut [u8]) -> u32 {
 }
 
 // What reading says of an image in an edition, and then what a step does.
-fn write_asked(words: &[u8], edition: u32, image: &mut [u8]) {
+fn write_asked(rt: &impl Print, words: &str, edition: u32, image: &mut [u8]) -> io::Result<()> {
     let reading = read(edition, &*image);
-    io::write_all(STDOUT_FILENO, words);
-    io::print_decimal(STDOUT_FILENO, reading.verdict as u64);
-    io::write_all(STDOUT_FILENO, b", a step ");
-    io::print_decimal(STDOUT_FILENO, step_verdict(edition, &mut *image) as u64);
+    let verdict = reading.verdict;
+    let stepped = step_verdict(edition, &mut *image);
+    print!(rt; "{words}{verdict}, a step {stepped}")
 }
 
 // The same in both editions. What a step leaves in edition 1 is an image in edition 2 too, so one is enough for both.
-pub(crate) fn write_whole(name: &[u8], image: &mut [u8]) {
-    io::write_all(STDOUT_FILENO, name);
-    write_asked(b": reading ", ONE_WAITS, &mut *image);
-    write_asked(b"; in edition 2 reading ", MANY_WAIT, &mut *image);
-    io::write_all(STDOUT_FILENO, b"\n");
+pub(crate) fn write_whole(rt: &impl Print, name: &str, image: &mut [u8]) -> io::Result<()> {
+    rt.print(name)?;
+    write_asked(rt, ": reading ", ONE_WAITS, &mut *image)?;
+    write_asked(rt, "; in edition 2 reading ", MANY_WAIT, &mut *image)?;
+    println!(rt)
 }
 
 // The same in an edition that is none.
-fn write_edition(name: &[u8], edition: u32, image: &mut [u8]) {
-    io::write_all(STDOUT_FILENO, name);
-    write_asked(b": reading ", edition, &mut *image);
-    io::write_all(STDOUT_FILENO, b"\n");
+fn write_edition(rt: &impl Print, name: &str, edition: u32, image: &mut [u8]) -> io::Result<()> {
+    rt.print(name)?;
+    write_asked(rt, ": reading ", edition, &mut *image)?;
+    println!(rt)
 }
 
 // The same of the first bytes of an image.
-fn write_first(name: &[u8], image: &mut [u8], len: usize) {
-    if len <= image.len() {
-        write_whole(name, &mut image[..len]);
+fn write_first(rt: &impl Print, name: &str, image: &mut [u8], len: usize) -> io::Result<()> {
+    if image.len() < len {
+        return Ok(());
     }
+    write_whole(rt, name, &mut image[..len])
 }
 
 // The image with a byte more.
@@ -90,9 +90,9 @@ fn random() -> [u8; IMAGE] {
     bytes
 }
 
-fn write_part(name: &[u8], long: [u8; IMAGE + 1], len: usize) {
+fn write_part(rt: &impl Print, name: &str, long: [u8; IMAGE + 1], len: usize) -> io::Result<()> {
     let mut image = long;
-    write_first(name, &mut image, len);
+    write_first(rt, name, &mut image, len)
 }
 
 // The image with tid 11, which stands behind tid 10 in the queue of tid 7, first and alone in the queue of another.
@@ -104,37 +104,37 @@ fn sent_to(image: [u8; IMAGE], target: u8) -> [u8; IMAGE] {
 }
 
 // Other lengths.
-pub(crate) fn write_lengths(image: [u8; IMAGE]) {
+pub(crate) fn write_lengths(rt: &impl Print, image: [u8; IMAGE]) -> io::Result<()> {
     let long = longer(image);
     let mut old = shorter(image);
-    write_part(b"no byte", long, 0);
-    write_part(b"767 bytes", long, IMAGE - 1);
-    write_part(b"769 bytes", long, IMAGE + 1);
-    write_whole(b"the old form", &mut old);
+    write_part(rt, "no byte", long, 0)?;
+    write_part(rt, "767 bytes", long, IMAGE - 1)?;
+    write_part(rt, "769 bytes", long, IMAGE + 1)?;
+    write_whole(rt, "the old form", &mut old)
 }
 
 // Other bytes.
-pub(crate) fn write_wholes(image: [u8; IMAGE]) {
+pub(crate) fn write_wholes(rt: &impl Print, image: [u8; IMAGE]) -> io::Result<()> {
     let mut zeros = [0u8; IMAGE];
     let mut noise = random();
     let mut unbroken = image;
     let mut at_another = sent_to(image, 12);
     let mut at_exited = sent_to(image, 5);
-    write_whole(b"all zero", &mut zeros);
-    write_whole(b"random bytes", &mut noise);
-    write_whole(b"the unbroken image", &mut unbroken);
-    write_whole(b"a sender at tid 12, which exists", &mut at_another);
-    write_whole(b"a sender at tid 5, which has exited", &mut at_exited);
+    write_whole(rt, "all zero", &mut zeros)?;
+    write_whole(rt, "random bytes", &mut noise)?;
+    write_whole(rt, "the unbroken image", &mut unbroken)?;
+    write_whole(rt, "a sender at tid 12, which exists", &mut at_another)?;
+    write_whole(rt, "a sender at tid 5, which has exited", &mut at_exited)
 }
 
 // Editions that are none, which are refused before a length and before a rule.
-pub(crate) fn write_editions(image: [u8; IMAGE]) {
+pub(crate) fn write_editions(rt: &impl Print, image: [u8; IMAGE]) -> io::Result<()> {
     let mut unbroken = image;
     let mut zeros = [0u8; IMAGE];
     let mut short = [0u8; 1];
-    write_edition(b"edition 0", 0, &mut unbroken);
-    write_edition(b"edition 3", 3, &mut unbroken);
-    write_edition(b"edition 257", 257, &mut unbroken);
-    write_edition(b"edition 3, one byte", 3, &mut short);
-    write_edition(b"edition 3, all zero", 3, &mut zeros);
+    write_edition(rt, "edition 0", 0, &mut unbroken)?;
+    write_edition(rt, "edition 3", 3, &mut unbroken)?;
+    write_edition(rt, "edition 257", 257, &mut unbroken)?;
+    write_edition(rt, "edition 3, one byte", 3, &mut short)?;
+    write_edition(rt, "edition 3, all zero", 3, &mut zeros)
 }

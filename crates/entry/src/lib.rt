@@ -1,4 +1,6 @@
 // The byte entry: what a C host calls. It lends bytes, and finds in them what the kernel made of its request.
+#![tactic(auto)]
+
 ghost use Rattle.std.specs.Prelude.{◌≡◌, ◌*◌, ◌||◌, length, replicate, eqb};
 ghost use Rattle.std.proofs.Math.Seq.{paste};
 ghost use Rattle.queue.specs.Choose.{all_below};
@@ -42,8 +44,7 @@ fn refuse(verdict: u8, answer: &mut [u8]) -> u32
 }
 
 // One step of the kernel that an image holds, in the edition that it was started in.
-#[unsafe(no_mangle)]
-pub extern "C" fn kernel_step(
+pub fn kernel_step(
     edition: u32,
     image: &mut [u8],
     areas: &mut [u8],
@@ -99,8 +100,7 @@ fn put_entry(image: &mut [u8], entry: u32)
 
 // A fresh kernel's image, whose first task has the priority and the entry number given. The edition is asked, then the priority, then the
 // length, and nothing is written before all are right. An image does not hold its edition.
-#[unsafe(no_mangle)]
-pub extern "C" fn kernel_start(edition: u32, priority: u32, entry: u32, image: &mut [u8]) -> u32
+pub fn kernel_start(edition: u32, priority: u32, entry: u32, image: &mut [u8]) -> u32
     ensures { start_call result image.new ≡ start_called slot_count edition priority entry image.old }
 {
     if !is_edition(edition) {
@@ -139,8 +139,7 @@ fn holds(form: Form, image: &[u8]) -> bool
 
 // An image of any form written in the form that has as many bytes as `out`. The edition and both lengths are asked first, and nothing is
 // written before all is right: so the newest form, of which the rules are asked, is made beside `out`.
-#[unsafe(no_mangle)]
-pub extern "C" fn kernel_convert(edition: u32, image: &[u8], out: &mut [u8]) -> u32
+pub fn kernel_convert(edition: u32, image: &[u8], out: &mut [u8]) -> u32
     ensures verdict { result ≡ convert_verdict slot_count edition image.now (length out.old) }
     ensures bytes { out.new ≡ converted slot_count edition image.now out.old }
 {

@@ -2,78 +2,88 @@
 //
 // A case is a word, the edition, and four chunks, the image, the areas, the record and the answer. For each case the verdict is written as a
 // word, and then the four chunks as the call left them.
+#![tactic(auto)]
+
 use chunks::{ENDED, LARGEST, MOST, complain, read_chunk, read_word, write_chunk, write_word};
 use entry::kernel_step;
+use std::io;
+use std::io::Read;
 
 // Says why a case is not run, and that there is no other.
-fn refuse(n: usize) -> bool {
-    complain(b"entry_cases", n);
-    false
+fn refuse(rt: &impl Eprint, n: usize) -> io::Result<bool> {
+    complain(rt, "entry_cases", n)?;
+    Ok(false)
 }
 
-// Calls the entry on a case, and writes what it did. Answers whether all was written.
+// Calls the entry on a case, and writes what it did.
 fn call(
+    rt: &impl Print,
     edition: u32,
     image: &mut [u8],
     areas: &mut [u8],
     record: &[u8],
     answer: &mut [u8],
-) -> bool {
+) -> io::Result<()> {
     let verdict = kernel_step(edition, &mut *image, &mut *areas, record, &mut *answer);
-    write_word(verdict as usize)
-        && write_chunk(&*image)
-        && write_chunk(&*areas)
-        && write_chunk(record)
-        && write_chunk(&*answer)
+    write_word(rt, verdict as usize)?;
+    write_chunk(rt, &*image)?;
+    write_chunk(rt, &*areas)?;
+    write_chunk(rt, record)?;
+    write_chunk(rt, &*answer)
 }
 
 // The chunks of a case, whose edition was read. Answers whether to go on.
-fn run_chunks(edition: u32) -> bool {
+fn run_chunks<R: Read>(rt: &(impl Print + Eprint), from: &mut R, edition: u32) -> io::Result<bool> {
     let mut image = [0u8; MOST];
     let mut areas = [0u8; MOST];
     let mut record = [0u8; MOST];
     let mut answer = [0u8; MOST];
-    let a = read_chunk(&mut image);
+    let a = read_chunk(from, &mut image)?;
     if MOST < a {
-        return refuse(a);
+        return refuse(rt, a);
     }
-    let b = read_chunk(&mut areas);
+    let b = read_chunk(from, &mut areas)?;
     if MOST < b {
-        return refuse(b);
+        return refuse(rt, b);
     }
-    let c = read_chunk(&mut record);
+    let c = read_chunk(from, &mut record)?;
     if MOST < c {
-        return refuse(c);
+        return refuse(rt, c);
     }
-    let d = read_chunk(&mut answer);
+    let d = read_chunk(from, &mut answer)?;
     if MOST < d {
-        return refuse(d);
+        return refuse(rt, d);
     }
     call(
+        rt,
         edition,
         &mut image[..a],
         &mut areas[..b],
         &record[..c],
         &mut answer[..d],
-    )
+    )?;
+    Ok(true)
 }
 
 // One case. Answers whether to go on.
-fn run_case() -> bool {
-    let edition = read_word();
+fn run_case<R: Read>(rt: &(impl Print + Eprint), from: &mut R) -> io::Result<bool> {
+    let edition = read_word(from)?;
     if edition == ENDED {
-        return false;
+        return Ok(false);
     }
     if LARGEST < edition {
-        return refuse(edition);
+        return refuse(rt, edition);
     }
-    run_chunks(edition as u32)
+    run_chunks(rt, from, edition as u32)
 }
 
 // A proved loop has to end, and nothing says that the input does.
-fn main() {
-    let mut turns = u64::MAX;
-    while 0 < turns && run_case() {
-        turns -= 1;
+fn main(rt: HostRuntime) -> io::Result<()> {
+    let mut from = rt.reader();
+    for _ in 0..u64::MAX {
+        if !run_case(&rt, &mut from)? {
+            break;
+        }
     }
+    Ok(())
 }

@@ -1,12 +1,14 @@
 // Writes the worked example of docs/FORMATS.md: bytes that go into the byte entry, and bytes that it leaves. It is in edition 1; nobody
 // waits for an event, so that in edition 2 every byte would be the same.
+#![tactic(auto)]
+
 use entry::{kernel_start, kernel_step};
 use image::call::{ANSWER, REQUEST};
 use image::fields::RECORD;
 use image::stored::IMAGE;
 use kernel::edition::ONE_WAITS;
 use kernel::numbers::{CREATE, OWN_WRITE, RECEIVE, REPLY, SEND};
-use libc::STDOUT_FILENO;
+use std::io;
 use tid::sizes::{AREA, SLOTS};
 
 const AREAS: usize = SLOTS * AREA;
@@ -17,44 +19,40 @@ const SECOND: usize = RECORD;
 const THIRD: usize = 2 * RECORD;
 
 // A kernel between two calls.
-#[derive(Drop)]
+#[derive(Clone, Copy, Drop)]
 struct Host {
     image: [u8; IMAGE],
     areas: [u8; AREAS],
 }
 
-fn wide(x: u8) -> u64 {
-    x as u64
-}
-
 // A line: a name, and the bytes from one place up to another in hex.
-fn line(name: &[u8], bytes: &[u8], start: usize, end: usize) {
-    io::write_all(STDOUT_FILENO, name);
+fn line(rt: &impl Print, name: &str, bytes: &[u8], start: usize, end: usize) -> io::Result<()> {
+    rt.print(name)?;
     let mut at = start;
     while at < end {
         if at < bytes.len() {
-            io::write_all(STDOUT_FILENO, b" ");
-            io::print_hex(STDOUT_FILENO, wide(bytes[at]), 2);
+            let byte = bytes[at];
+            print!(rt; " {byte:02x}")?;
         }
         at += 1;
     }
-    io::write_all(STDOUT_FILENO, b"\n");
+    println!(rt)
 }
 
-fn first(host: Host) {
+fn first(rt: &impl Print, host: Host) -> io::Result<()> {
     let image = host.image;
-    line(b"tid 1  ", &image, 0, SECOND);
+    line(rt, "tid 1  ", &image, 0, SECOND)
 }
 
-fn second(host: Host) {
+fn second(rt: &impl Print, host: Host) -> io::Result<()> {
     let image = host.image;
-    line(b"tid 2  ", &image, SECOND, THIRD);
+    line(rt, "tid 2  ", &image, SECOND, THIRD)
 }
 
 // The first bytes of tid 2's area.
-fn received(host: Host) {
+fn received(rt: &impl Print, host: Host) -> io::Result<()> {
     let areas = host.areas;
-    line(b"area 2 ", &areas, AREA, AREA + 6);
+    line(rt, "area 2 ", &areas, AREA, AREA + 6)
 }
 
 fn started() -> Host {
@@ -83,29 +81,29 @@ fn create() -> [u8; REQUEST] {
 }
 
 // A request, and its answer.
-fn asked(host: Host, request: [u8; REQUEST]) -> Host {
+fn asked(rt: &impl Print, host: Host, request: [u8; REQUEST]) -> io::Result<Host> {
     let mut image = host.image;
     let mut areas = host.areas;
     let mut answer = [0u8; ANSWER];
-    line(b"request", &request, 0, REQUEST);
+    line(rt, "request", &request, 0, REQUEST)?;
     kernel_step(ONE_WAITS, &mut image, &mut areas, &request, &mut answer);
-    line(b"answer ", &answer, 0, ANSWER);
-    Host { image, areas }
+    line(rt, "answer ", &answer, 0, ANSWER)?;
+    Ok(Host { image, areas })
 }
 
-fn main() {
+fn main(rt: HostRuntime) -> io::Result<()> {
     let fresh = started();
-    first(fresh);
-    let created = asked(fresh, create());
-    first(created);
-    second(created);
-    let waiting = asked(created, request(RECEIVE as u8, 0, 4, 0, 0, 0));
-    second(waiting);
-    let written = asked(waiting, request(OWN_WRITE as u8, 10, 65, 0, 0, 0));
-    let sent = asked(written, request(SEND as u8, 2, 10, 6, 20, 1));
-    first(sent);
-    second(sent);
-    received(sent);
-    let replied = asked(sent, request(REPLY as u8, 1, 0, 3, 0, 0));
-    first(replied);
+    first(&rt, fresh)?;
+    let created = asked(&rt, fresh, create())?;
+    first(&rt, created)?;
+    second(&rt, created)?;
+    let waiting = asked(&rt, created, request(RECEIVE as u8, 0, 4, 0, 0, 0))?;
+    second(&rt, waiting)?;
+    let written = asked(&rt, waiting, request(OWN_WRITE as u8, 10, 65, 0, 0, 0))?;
+    let sent = asked(&rt, written, request(SEND as u8, 2, 10, 6, 20, 1))?;
+    first(&rt, sent)?;
+    second(&rt, sent)?;
+    received(&rt, sent)?;
+    let replied = asked(&rt, sent, request(REPLY as u8, 1, 0, 3, 0, 0))?;
+    first(&rt, replied)
 }

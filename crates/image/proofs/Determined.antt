@@ -6,14 +6,14 @@ use Rattle.tid.specs.Determined.{Determines, DeterminesResult}
 use Rattle.image.proofs.stored.read.Reads as read
 use Rattle.image.proofs.stored.write.Reads as write
 use Rattle.image.proofs.stored.convert.Reads as convert
-use Rattle.image.proofs.form.form_at.Reads as form_at_lem
-use Rattle.image.proofs.form.form_for.Reads as form_for_lem
+use Rattle.image.proofs.form.form_at.Reads as form_at
+use Rattle.image.proofs.form.form_for.Reads as form_for
 use Rattle.image.proofs.form.reform.Reads as reform
 use Rattle.image.proofs.call.request_from.Reads as request_from
 use Rattle.image.proofs.call.put_answer.Reads as put_answer
 use Rattle.image.proofs.words.word.Reads as word
 use Rattle.image.proofs.words.short.Reads as short
-use Rattle.image.proofs.fields.result_of.Reads as result_of_lem
+use Rattle.image.proofs.fields.result_of.Reads as result_of
 use Rattle.image.proofs.fields.fields_of.Reads as fields_of
 
 read_determined : (κs : _) (a : _) → DeterminesResult (read.Post κs a)
@@ -25,10 +25,10 @@ write_determined κs a r r' s s' p p' = (p.0 ∙⁻¹ p'.0, p.1 ∙⁻¹ p'.1)
 convert_determined : (κs : _) (a : _) → Determines (convert.Post κs a) (λ s. s.1.1.0.now)
 convert_determined κs a r r' s s' p p' = (p.0 ∙⁻¹ p'.0, p.1 ∙⁻¹ p'.1)
 
-form_at_determined : (κs : _) (a : _) → DeterminesResult (form_at_lem.Post κs a)
+form_at_determined : (κs : _) (a : _) → DeterminesResult (form_at.Post κs a)
 form_at_determined κs a r r' s s' p p' = (p ∙⁻¹ p', refl)
 
-form_for_determined : (κs : _) (a : _) → DeterminesResult (form_for_lem.Post κs a)
+form_for_determined : (κs : _) (a : _) → DeterminesResult (form_for.Post κs a)
 form_for_determined κs a r r' s s' p p' = (p ∙⁻¹ p', refl)
 
 reform_determined : (κs : _) (a : _) → Determines (reform.Post κs a) (λ s. s.1.0.now)
@@ -44,7 +44,7 @@ put_answer_determined κs a r r' s s' p p' = (refl, p ∙⁻¹ p')
 fields_of_determined : (κs : _) (a : _) → DeterminesResult (fields_of.Post κs a)
 fields_of_determined κs a r r' s s' p p' = (p ∙⁻¹ p', refl)
 
-result_of_determined : (κs : _) (a : _) → DeterminesResult (result_of_lem.Post κs a)
+result_of_determined : (κs : _) (a : _) → DeterminesResult (result_of.Post κs a)
 result_of_determined κs a r r' s s' p p' = (p ∙⁻¹ p', refl)
 
 short_determined : (κs : _) (a : _) → DeterminesResult (short.Post κs a)

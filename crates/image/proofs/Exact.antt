@@ -27,7 +27,7 @@ use Rattle.image.specs.Bytes.{in_order, record_at, same}
 use Rattle.image.specs.Record.{record_length, stored_place, task_record, record_of, place_read}
 use Rattle.image.specs.Image.{image_of, table_of, is_image, judged_image}
 use Rattle.image.specs.Exact.{exact_record, exact_up_to, decoded_of, checked_placed}
-use Rattle.image.proofs.Bytes.{recordAt-inOrder, same_true, same_refl}
+use Rattle.image.proofs.Bytes.{record_at_in_order, same_true, same_refl}
 use Rattle.image.proofs.Fitted.{records_all, in_order_same, length_record}
 use Rattle.image.proofs.Stands.{stored_in, stored_none}
 use Rattle.image.proofs.Record.{length_record_of}
@@ -49,7 +49,7 @@ image_is t n e = rw e
 
 pub record_found : (t : Table) (s : ℕ) → s < slots t → record_at record_length (image_of t) s ≡ record_of t s
 unfolding image_of
-record_found t s l = recordAt-inOrder record_length (record_of t) (length_record_of t) (slots t) s l
+record_found t s l = record_at_in_order record_length (record_of t) (length_record_of t) (slots t) s l
 
 module _ (n ed : ℕ) (bytes : List ℕ) where
   module _ (g : Good n (table_of n ed bytes)) (s : ℕ) (l : s < n) where
@@ -74,9 +74,9 @@ module _ (n ed : ℕ) (bytes : List ℕ) where
         let (at, _, here) = own k e h in
         at ∙ sym (place_found n ed bytes k _ s h here)
 
-    place_read : stored_place (table_of n ed bytes) s ≡ kept_place (record_at record_length bytes s)
+    place_is_read : stored_place (table_of n ed bytes) s ≡ kept_place (record_at record_length bytes s)
     unfolding queue_of
-    place_read =
+    place_is_read =
         let t = table_of n ed bytes in
         let x = task_at t s in
         let kept = ap (place_kept (record_at record_length bytes s)) (task_read n ed bytes n s (omega arith) l) in
@@ -104,7 +104,7 @@ module _ (n ed : ℕ) (bytes : List ℕ) where
     record_again whole small =
         let r = record_at record_length bytes s in
         let size = length_record n record_length bytes s l whole in
-        let again = ap₂ task_record (task_read n ed bytes n s (omega arith) l) place_read in
+        let again = ap₂ task_record (task_read n ed bytes n s (omega arith) l) place_is_read in
         exact_record_lem r size (part_small bytes small (s * record_length) record_length) ∙ ap (λ (x : List ℕ). same x r) (sym again)
 
 -- every record is exact, or the image is another

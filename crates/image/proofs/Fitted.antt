@@ -5,7 +5,7 @@ use lib.ListN.{length-replicate, get_or-eq_default, get_or-append}
 use Rattle.rules.proofs.Fresh.{all_same}
 use Rattle.image.specs.Bytes.{in_order, record_at}
 use Rattle.image.specs.Form.{fitted, reformed}
-use Rattle.image.proofs.Bytes.{length-inOrder, recordAt-inOrder}
+use Rattle.image.proofs.Bytes.{length_in_order, record_at_in_order}
 
 -- the records one after another are the bytes
 pub records_all : (w : ℕ) (bytes : List ℕ) (k : ℕ) → in_order (record_at w bytes) k ≡ take (k * w) bytes
@@ -55,11 +55,11 @@ fitted_longer w v r h e =
 module _ (n from to : ℕ) (bytes : List ℕ) where
   pub length_reformed : length (reformed n from to bytes) ≡ n * to
   unfolding reformed
-  length_reformed = length-inOrder to _ (λ s. length_fitted to (record_at from bytes s)) n
+  length_reformed = length_in_order to _ (λ s. length_fitted to (record_at from bytes s)) n
 
   pub record_reformed : (s : ℕ) → s < n → record_at to (reformed n from to bytes) s ≡ fitted to (record_at from bytes s)
   unfolding reformed
-  record_reformed s l = recordAt-inOrder to _ (λ s. length_fitted to (record_at from bytes s)) n s l
+  record_reformed s l = record_at_in_order to _ (λ s. length_fitted to (record_at from bytes s)) n s l
 
 -- an image whose records come back comes back
 pub reformed_back : (n w v : ℕ) (bytes : List ℕ) → length bytes ≡ n * w

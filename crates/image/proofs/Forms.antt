@@ -14,7 +14,7 @@ use Rattle.image.specs.declared.form.Form.{Form}
 use Rattle.image.specs.Form.{form_count, form_at, image_length, form_for, is_form, form_of, fitted, reformed, reformed_into, holds}
 use Rattle.image.specs.Image.{image_of, table_of}
 use Rattle.image.proofs.Record.{length_record_of}
-use Rattle.image.proofs.Bytes.{length-inOrder}
+use Rattle.image.proofs.Bytes.{length_in_order}
 use Rattle.image.proofs.Exact.{record_found}
 use Rattle.image.proofs.Placed.{task_read}
 use Rattle.image.proofs.Shape.{table_shaped}
@@ -82,7 +82,7 @@ old_back n len bytes whole =
 -- how long the image of any table is
 pub length_image : (t : Table) → length (image_of t) ≡ slots t * record_length
 unfolding image_of
-length_image t = length-inOrder record_length (record_of t) (length_record_of t) (slots t)
+length_image t = length_in_order record_length (record_of t) (length_record_of t) (slots t)
 
 -- a record whose task has the entry number 0 comes back from the oldest form
 bare_back : (x : Task) (place : ℕ) → x.entry ≡ 0 → fitted record_length (fitted at_entry (task_record x place)) ≡ task_record x place

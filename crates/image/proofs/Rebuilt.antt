@@ -8,7 +8,7 @@ use Rattle.queue.proofs.Below.{both_true, true_both, by_test, same_test, all_bel
 use Rattle.task.specs.declared.task.Result.{Result}
 use Rattle.task.specs.declared.task.Result.TheVariants.{Nothing, Fault}
 use Rattle.task.specs.declared.task.State.{State}
-use Rattle.task.specs.Task.{state_code, message_of, reply_of, awaited, is_used, is_ready, is_receive_blocked, is_event_blocked}
+use Rattle.task.specs.Task.{state_code, message_of, reply_of, is_used, is_ready, is_receive_blocked, is_event_blocked}
 use Rattle.task.specs.declared.task.Task.{Task}
 use Rattle.image.specs.declared.fields.Parts.{Parts}
 use Rattle.image.specs.declared.fields.ResultParts.{ResultParts}

@@ -53,7 +53,7 @@ pub const MINUS_ONE: u32 = 4294967295;
 
 // The numbers of a result, in a record and in an answer: its kind, the tid that it is from, whether it was cut, and a value or a negative
 // fault.
-#[derive(Drop)]
+#[derive(Clone, Copy, Drop)]
 pub struct ResultParts {
     pub kind: u8,
     pub from: u8,

@@ -13,7 +13,6 @@ use Rattle.kernel.specs.declared.table.Table.{Table}
 use Rattle.kernel.specs.declared.table.Effect.{Effect}
 use Rattle.kernel.specs.declared.table.Effect.TheVariants.{Keep, Put}
 use Rattle.kernel.specs.declared.table.Request.{Request}
-use Rattle.kernel.specs.declared.table.Turn as Kernel
 use Rattle.kernel.specs.Numbers.{own_write_kind, accepted, bad_table, bad_image}
 use Rattle.kernel.specs.Table.{slots, used_slots, active_slot}
 use Rattle.kernel.specs.Moves.{dispatched}

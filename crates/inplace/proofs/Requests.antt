@@ -95,7 +95,7 @@ module _ {n ed used c : ℕ} {b count : List ℕ} (g : Begins n ed used c b coun
       → Woke n ed used c s told (alone_row (mark_of s)) told (table_of n ed b) b count (woken (table_of n ed b) (mark_of s) told) (joined_bytes b count s told) (joined_count b count s)
   one_wakes s code told is free_one other good =
       let old = g.stage in
-      let l : s < used = slot_used old.rules (free n (task_at (table_of n ed b) s) free_one).is_used_lem in
+      let l : s < used = slot_used old.rules (free n (task_at (table_of n ed b) s) free_one).in_use in
       slot_woke (record { rules = waking_one old.rules s free_one; records = old.records; counts = old.counts; long = old.long }) (edition_read n ed b n)
       small g.near g.runs told l (apart (table_of n ed b) 1 code (g.runs running) is (λ e. other (sym e))) good
 

@@ -130,16 +130,16 @@ module _ {n ed used c s : ℕ} {told said : Result} {row : Queue} {t t' : Table}
   abbrev turn : State → Result → Kernel.Turn
   turn st o = record { table = t; woken = row; told = said; state = st; result = o; effect = effect }
 
-  abbrev turnAt : State → ℕ → Result → Turn
-  turnAt st place o = record { used = used; woken = s; told = told; state = st; place = place; result = o; effect = effect }
+  abbrev turn_at : State → ℕ → Result → Turn
+  turn_at st place o = record { used = used; woken = s; told = told; state = st; place = place; result = o; effect = effect }
 
   -- from the stage that the caller's move leaves
   ends : (st : State) (place : ℕ) (o : Result) (after : Table)
       → (c < n → is_ready st ≡ true → Joinable b' count' c)
-      → Stage n used n nobody after (end_bytes n b count c (turnAt st place o)) (end_count n b count c (turnAt st place o))
+      → Stage n used n nobody after (end_bytes n b count c (turn_at st place o)) (end_count n b count c (turn_at st place o))
       → rejoined t' c st o ≡ after
       → after.edition ≡ ed
-      → Ends n ed c (turn st o) (turnAt st place o) b count
+      → Ends n ed c (turn st o) (turn_at st place o) b count
   ends st place o after caller g same edition =
       let (back, stage) = stage_back g edition in
       record {
@@ -155,7 +155,7 @@ module _ {n ed used c s : ℕ} {told said : Result} {row : Queue} {t t' : Table}
       }
 
   -- there is no caller
-  pub nobody_ends : (o : Result) → n ≤ c → Ends n ed c (turn Ready o) (turnAt Ready 0 o) b count
+  pub nobody_ends : (o : Result) → n ≤ c → Ends n ed c (turn Ready o) (turn_at Ready 0 o) b count
   unfolding end_bytes end_count
   nobody_ends o none =
       let same : c ≡ n = omega (arith, w.near) in
@@ -171,7 +171,7 @@ module _ {n ed used c s : ℕ} {told said : Result} {row : Queue} {t t' : Table}
     within = omega (arith, w.stage.rules.size, running)
 
     -- it goes on, behind whoever was woken
-    pub goes_on_ends : (o : Result) → good_result used o ≡ true → Ends n ed c (turn Ready o) (turnAt Ready 0 o) b count
+    pub goes_on_ends : (o : Result) → good_result used o ≡ true → Ends n ed c (turn Ready o) (turn_at Ready 0 o) b count
     unfolding end_bytes end_count
     goes_on_ends o good =
         let g = w.stage in
@@ -183,7 +183,7 @@ module _ {n ed used c s : ℕ} {told said : Result} {row : Queue} {t t' : Table}
     -- it stops, and stands in no queue
     pub halts_ends : (st : State) → is_ready st ≡ false → is_free st ≡ true → is_active st ≡ false → good_state used c st ≡ true
         → (is_quiet st ≡ true → (queue_at t' (send_queue c)).len ≡ 0)
-        → Ends n ed c (turn st Nothing) (turnAt st 0 Nothing) b count
+        → Ends n ed c (turn st Nothing) (turn_at st 0 Nothing) b count
     unfolding end_bytes end_count
     halts_ends st unready stays still good quiet =
         ends st 0 Nothing (left_as t' c st Nothing) (λ _ e. clash e unready)
@@ -199,8 +199,8 @@ pub queues_ends : {n ed used c : ℕ} {t : Table} {b count : List ℕ} → Stage
     → place ≡ (queue_at t k).len
     → Ends n ed c (stops (queued t k (mark_of c)) st) (stops_at n used st place) b count
 unfolding end_bytes end_count
-queues_ends {n} {ed} {used} {c} {t} g edition running runs k st place is_used_lem still unready unblocked good past h stands quiet fits tail =
-    let after = queues_stage g runs k st is_used_lem still unready unblocked good past h stands quiet fits in
+queues_ends {n} {ed} {used} {c} {t} g edition running runs k st place in_use still unready unblocked good past h stands quiet fits tail =
+    let after = queues_stage g runs k st in_use still unready unblocked good past h stands quiet fits in
     let (back, stage) = stage_back after (queued_edition t k (mark_of c) ∙ edition) in
     let within : c < slots (queued t k (mark_of c)) = rw (queued_slots t k (mark_of c)) (omega (arith, g.rules.size)) in
     record {

@@ -41,7 +41,7 @@ fn first_ready(count: &[u8; QUEUES]) -> usize
 }
 
 fn nobody() -> Answer
-    ensures* { λ r. ⌜ r ≡ record { verdict = 0; next = 0; result = O.Nothing } ⌝ }
+    ensures { result ≡ record { verdict = 0; next = 0; result = O.Nothing } }
 {
     Answer {
         verdict: ACCEPTED,

@@ -1,4 +1,6 @@
 // A request carried out on the records of an image, in place: no table is made.
+#![tactic(auto)]
+
 mod end;
 mod events;
 mod kinds;
@@ -31,7 +33,7 @@ pub struct Shown {
 }
 
 fn told_nothing(verdict: u8, next: u8, effect: Effect) -> Shown
-    ensures* { λ d. ⌜ d ≡ record { answer = record { verdict = verdict; next = next; result = O.Nothing }; effect = effect } ⌝ }
+    ensures { result ≡ record { answer = record { verdict = verdict; next = next; result = O.Nothing }; effect = effect } }
 {
     Shown {
         answer: Answer {

@@ -1,1 +1,2 @@
 // Theorems alone: every decision leaves a table that keeps the rules. specs/Sound says it, proofs/Kept proves it.
+#![tactic(auto)]

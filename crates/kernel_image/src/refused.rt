@@ -1,41 +1,33 @@
-// Refusals, by their numbers and in words, on standard error. Each answers whether all was written.
-use crate::text::number;
+// Refusals, by their numbers and in words, on standard error.
 use kernel::numbers::{BAD_EDITION, BAD_IMAGE, ENTRY_LOST};
 use kernel::table::Table;
-use libc::STDERR_FILENO;
+use std::io;
 use tid::sizes::SLOTS;
 use tid::tid_of;
 
 // As much as is read: an input that is so long may be longer.
-const MOST: usize = 65536;
-
-fn say_number(verdict: u8) -> bool {
-    number(STDERR_FILENO, b"R", verdict as u64)
-}
+pub(crate) const MOST: usize = 65536;
 
 // A length that no form has.
-pub(crate) fn say_length(len: usize) -> bool {
-    say_number(BAD_IMAGE)
-        && number(STDERR_FILENO, b": ", len as u64)
-        && (len < MOST || io::write_all(STDERR_FILENO, b" or more"))
-        && io::write_all(STDERR_FILENO, b" bytes are no form's length\n")
+pub(crate) fn say_length(rt: &impl Eprint, len: usize) -> io::Result<()> {
+    let more = if len < MOST { "" } else { " or more" };
+    eprintln!(rt; "R{BAD_IMAGE}: {len}{more} bytes are no form's length")
 }
 
 // An image of so many bytes that is not read. Which edition broke the rule is said, since the same bytes may be an image in the other.
-pub(crate) fn say_refusal(verdict: u8, edition: u32, len: usize) -> bool {
+pub(crate) fn say_refusal(
+    rt: &impl Eprint,
+    verdict: u8,
+    edition: u32,
+    len: usize,
+) -> io::Result<()> {
     if verdict == BAD_EDITION {
-        return say_number(verdict) && io::write_all(STDERR_FILENO, b": an edition is 1 or 2\n");
+        return eprintln!(rt; "R{verdict}: an edition is 1 or 2");
     }
     if verdict == BAD_IMAGE {
-        return say_length(len);
+        return say_length(rt, len);
     }
-    say_number(verdict)
-        && number(
-            STDERR_FILENO,
-            b": a rule of a table of edition ",
-            edition as u64,
-        )
-        && io::write_all(STDERR_FILENO, b" is broken\n")
+    eprintln!(rt; "R{verdict}: a rule of a table of edition {edition} is broken")
 }
 
 // The first slot whose task has an entry number other than 0; SLOTS where none has.
@@ -52,12 +44,7 @@ fn first_entry(table: Table) -> usize {
 }
 
 // Which task's entry number has no room in the form that was asked for: the first that has one.
-pub(crate) fn say_lost(table: Table) -> bool {
-    say_number(ENTRY_LOST)
-        && number(
-            STDERR_FILENO,
-            b": the entry number of tid ",
-            tid_of(first_entry(table)) as u64,
-        )
-        && io::write_all(STDERR_FILENO, b" would be lost\n")
+pub(crate) fn say_lost(rt: &impl Eprint, table: Table) -> io::Result<()> {
+    let tid = tid_of(first_entry(table));
+    eprintln!(rt; "R{ENTRY_LOST}: the entry number of tid {tid} would be lost")
 }

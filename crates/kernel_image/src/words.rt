@@ -2,12 +2,20 @@
 ghost use Rattle.std.specs.Prelude.{◌<◌};
 
 use kernel::edition::{MANY_WAIT, ONE_WAITS};
+use std::env::Env;
 
 // As much of a word as is looked at.
 pub(crate) const WORD: usize = 8;
 
 // A number that no edition has.
 const NONE: u32 = 0;
+
+// The first bytes of a word, and zeros behind them.
+pub(crate) fn word_at(rt: &impl Env, at: usize) -> [u8; WORD] {
+    let mut word = [0u8; WORD];
+    let _ = rt.arg(at, &mut word);
+    word
+}
 
 // A digit's number.
 fn digit(x: u8) -> usize

@@ -1,6 +1,8 @@
 // Reads request records from standard input, steps them from a fresh kernel, and writes a line for each. Its first word is the kernel's
 // edition, 1 or 2, and 1 where there is none; with a word behind it the lines are wide. A first word that is no edition is said on
 // standard error, and nothing is read or written then.
+#![tactic(auto)]
+
 ghost use Rattle.std.specs.Prelude.{◌≡◌, true, List, ℕ, ◌≤◌, length, take};
 ghost use Rattle.lines.specs.Block.{showed, room_for};
 ghost use Rattle.lines.specs.Printed.{Reached};
@@ -10,8 +12,9 @@ ghost use Rattle.kernel_run.specs.Words.{edition_named};
 use image::call::REQUEST;
 use kernel::edition::{MANY_WAIT, ONE_WAITS, is_edition};
 use kernel::table::Table;
-use libc::{STDERR_FILENO, STDIN_FILENO, STDOUT_FILENO};
 use lines::{Block, LONGEST_WIDE, fresh_block, show_block};
+use std::env::{Env, FillError};
+use std::io::Read;
 use tid::sizes::{AREA, SLOTS};
 
 // The first task's priority.
@@ -54,20 +57,26 @@ fn edition_named(words: usize, bytes: usize, first: u8) -> u32
     0
 }
 
+// Reads some bytes, or none at the end of the input. An input that cannot be read has ended; it says so.
+fn read_some<R: Read>(rt: &impl Eprint, from: &mut R, records: &mut [u8]) -> usize
+    ensures { result ≤ length records.new }
+{
+    match from.read(records) {
+        Ok(n) => n,
+        Err(_) => {
+            let _ = eprintln!(rt; "kernel-run: standard input cannot be read");
+            0
+        }
+    }
+}
+
 // Reads at least one record, unless the input ends before: as much as is there, up to the end of a record.
-fn fill(records: &mut [u8]) -> usize
+fn fill<R: Read>(rt: &impl Eprint, from: &mut R, records: &mut [u8]) -> usize
     ensures { result ≤ length records.new }
 {
     let mut n = 0;
     while n < records.len() {
-        let got = libc::read(STDIN_FILENO, &mut records[n..]);
-        if got < 0 {
-            io::write_all(
-                STDERR_FILENO,
-                b"kernel-run: standard input cannot be read\n",
-            );
-        }
-        let count = io::count(got, &records[n..]);
+        let count = read_some(rt, from, &mut records[n..]);
         if count == 0 {
             break;
         }
@@ -80,13 +89,10 @@ fn fill(records: &mut [u8]) -> usize
 }
 
 // Whether the lines were written; where not, it says so.
-fn written(lines: &[u8]) -> bool {
-    let is_written = io::write_all(STDOUT_FILENO, lines);
+fn written(rt: &(impl Print + Eprint), lines: &[u8]) -> bool {
+    let is_written = rt.write_all(lines).is_ok();
     if !is_written {
-        io::write_all(
-            STDERR_FILENO,
-            b"kernel-run: standard output cannot be written\n",
-        );
+        let _ = eprintln!(rt; "kernel-run: standard output cannot be written");
     }
     is_written
 }
@@ -109,13 +115,21 @@ fn shown(
 }
 
 // One block: read, stepped and written. Where there may be another, the run of all that was read stands in what is left.
-fn turn(edition: u32, table: Table, step: u64, areas: &mut [u8], wide: bool) -> Next
+fn turn<R: Read>(
+    rt: &(impl Print + Eprint),
+    from: &mut R,
+    edition: u32,
+    table: Table,
+    step: u64,
+    areas: &mut [u8],
+    wide: bool,
+) -> Next
     requires { Stands edition table step areas.old }
     ensures { result.more ≡ true → Leads edition table step areas.old result.table result.step areas.new }
 {
     let mut records = [0u8; REQUEST * RECORDS];
     let mut out = [0u8; LONGEST_WIDE * (RECORDS + 1)];
-    let n = fill(&mut records);
+    let n = fill(rt, from, &mut records);
     let first = Block {
         table,
         step,
@@ -124,7 +138,7 @@ fn turn(edition: u32, table: Table, step: u64, areas: &mut [u8], wide: bool) -> 
     let block = shown(edition, first, &records[..n], &mut *areas, &mut out, wide);
     let next = block.table;
     let end = block.end;
-    let is_written = written(&out[..end]);
+    let is_written = written(rt, &out[..end]);
     Next {
         table: next,
         step: block.step,
@@ -134,14 +148,21 @@ fn turn(edition: u32, table: Table, step: u64, areas: &mut [u8], wide: bool) -> 
 
 // A proved loop has to end, and nothing says that the input does. So the loop counts its turns down, from a number that no
 // run uses up.
-fn run(edition: u32, first: Block, areas: &mut [u8], wide: bool)
+fn run<R: Read>(
+    rt: &(impl Print + Eprint),
+    from: &mut R,
+    edition: u32,
+    first: Block,
+    areas: &mut [u8],
+    wide: bool,
+)
     requires { Stands edition first.table first.step areas.old }
 {
     let mut table = first.table;
     let mut step = first.step;
     let mut turns = u64::MAX;
     while 0 < turns {
-        let next = turn(edition, table, step, &mut *areas, wide);
+        let next = turn(rt, from, edition, table, step, &mut *areas, wide);
         if !next.more {
             break;
         }
@@ -151,23 +172,39 @@ fn run(edition: u32, first: Block, areas: &mut [u8], wide: bool)
     }
 }
 
-fn main() {
-    let mut areas = [0u8; SLOTS * AREA];
+// The edition that the words name.
+fn edition_asked(rt: &impl Env) -> u32 {
     let mut word = [0u8; WORD];
-    let bytes = os::arg(1, &mut word);
-    let words = os::arg_count();
-    let edition = edition_named(words, bytes, word[0]);
+    match rt.arg(1, &mut word) {
+        Ok(bytes) => edition_named(2, bytes, word[0]),
+        Err(FillError::TooLong) => edition_named(2, 0, word[0]),
+        Err(FillError::NotPresent) => edition_named(1, 0, word[0]),
+    }
+}
+
+// Whether a word stands behind the edition.
+fn asks_wide(rt: &impl Env) -> bool {
+    let mut word = [0u8; WORD];
+    match rt.arg(2, &mut word) {
+        Err(FillError::NotPresent) => false,
+        _ => true,
+    }
+}
+
+fn main(rt: HostRuntime) {
+    let mut areas = [0u8; SLOTS * AREA];
+    let edition = edition_asked(&rt);
     if !is_edition(edition) {
-        io::write_all(
-            STDERR_FILENO,
-            b"kernel-run: the first word is the edition, 1 or 2\n",
-        );
+        let _ = eprintln!(rt; "kernel-run: the first word is the edition, 1 or 2");
         return;
     }
+    let wide = asks_wide(&rt);
     run(
+        &rt,
+        &mut rt.reader(),
         edition,
         fresh_block(edition, FIRST, FIRST_ENTRY),
         &mut areas,
-        2 < words,
+        wide,
     );
 }

@@ -57,7 +57,7 @@ entry_keeps : {n : ℕ} {t : Table} → Good n t → (r : Request) → Enters (s
 entry_keeps {n} {t} good r enters s below =
     elim (dec_lt s (used_slots t)) [
       | yes l ↦
-          used_keeps t r _ s (good.rules.tasks.each s l).is_used_lem (ends_entry (entry_sees good r enters s l) ∙ left_entry t r s)
+          used_keeps t r _ s (good.rules.tasks.each s l).in_use (ends_entry (entry_sees good r enters s l) ∙ left_entry t r s)
       | no ge ↦
           let past : used_slots t ≤ s = omega arith in
           new_keeps t r _ s (good.rules.tasks.unused s past) (entry_makes good r enters s past below)

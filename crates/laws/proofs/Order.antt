@@ -141,9 +141,9 @@ pub one_joins_last : {n used a : ℕ} {x : Table} → Rules n used a x → (s : 
     → {t : Table} {joining : List ℕ} → SamePriorities x t → InTurn t joining x.queues
     → InTurn t (joining ++ mark_of s ∷ []) (woken x (mark_of s) o).queues
 unfolding woken_up_to pushed_row
-one_joins_last {n} {used} {x = x} f s is_free o good =
-    let l : s < used = slot_used f (free n (task_at x s) is_free).is_used_lem in
-    row_joins (waking_one f s is_free) (alone_row_lem n s (omega (arith, f.tasks.fits))) o good (λ j _ e. omega (arith, eqb-true j s e))
+one_joins_last {n} {used} {x = x} f s task_free o good =
+    let l : s < used = slot_used f (free n (task_at x s) task_free).in_use in
+    row_joins (waking_one f s task_free) (alone_row_lem n s (omega (arith, f.tasks.fits))) o good (λ j _ e. omega (arith, eqb-true j s e))
 
 -- A queue that is no ready queue is woken whole.
 module _ {n used a : ℕ} {t : Table} (f : Rules n used a t) (k : ℕ) (other : priorities ≤ k) (l : k < queues_for n)
@@ -162,7 +162,7 @@ module _ {n used a : ℕ} {t : Table} (f : Rules n used a t) (k : ℕ) (other : 
 
   -- who stands in no queue is as before
   pub queue_aside : (s : ℕ) → is_free (task_at t s).state ≡ true → task_at (woken_row left (queue_at t k) o) s ≡ task_at t s
-  queue_aside s is_free = others_woken gone row o s (rw (free n (task_at t s) is_free).nowhere (ne_eqb (queues_for n) k (omega arith)))
+  queue_aside s task_free = others_woken gone row o s (rw (free n (task_at t s) task_free).nowhere (ne_eqb (queues_for n) k (omega arith)))
 
   pub queue_priority : SamePriorities (woken_row left (queue_at t k) o) t
   queue_priority = row_priority left (queue_at t k) o (count (queue_at t k))

@@ -83,7 +83,7 @@ module _ {n : ℕ} {t : Table} {xs : List ℕ} (steps : Steps n t xs) (r : Reque
   spares : (f : Effect) → Lands t r f → (i : ℕ) → i < area_bytes → Spares f (place_in s 0 + i)
   spares Keep lands i low = tt
   spares (Copy source dest m cut) lands i low =
-      λ j h e. let in_Buffer = copy_writes lands s i j low h (omega arith) in omega (arith, narrow in_Buffer.taker)
+      λ j h e. let inside = copy_writes lands s i j low h (omega arith) in omega (arith, narrow inside.taker)
   spares (Put at byte) lands i low = λ e. active_not t s other (put_writes lands s i low (omega arith))
 
   pub ready_bytes : bytes_at s 0 area_bytes (after d.effect xs) ≡ bytes_at s 0 area_bytes xs

@@ -5,7 +5,7 @@ use mathlib.Core.Path.{◌∙⁻¹◌}
 use Rattle.tid.specs.Determined.{Determines}
 use Rattle.lines.proofs.shown.line.Reads as line
 use Rattle.lines.proofs.block.fresh_block.Reads as fresh_block
-use Rattle.lines.proofs.block.show_block.Reads as show_block_lem
+use Rattle.lines.proofs.block.show_block.Reads as show_block
 
 -- the place behind the line, and the buffer
 line_determined : (κs : _) (a : _) → Determines (line.Post κs a) (λ s. s.0.now)
@@ -13,7 +13,7 @@ line_determined κs a r r' s s' p p' = (p.0.ended ∙⁻¹ p'.0.ended, p.0.store
 
 -- the next table, the next step's number and the place behind the lines; the areas and the buffer
 show_block_determined : (κs : _) (a : _)
-    → Determines {E = List ℕ × List ℕ} (show_block_lem.Post κs a) (λ s. (s.1.1.0.now, s.1.1.1.0.now))
+    → Determines {E = List ℕ × List ℕ} (show_block.Post κs a) (λ s. (s.1.1.0.now, s.1.1.1.0.now))
 show_block_determined κs a r r' s s' p p' =
     let x = p.0 in
     let y = p'.0 in (

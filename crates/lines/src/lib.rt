@@ -1,4 +1,6 @@
 // What a run of the kernel prints: a line for each step.
+#![tactic(auto)]
+
 mod block;
 mod shown;
 mod state;

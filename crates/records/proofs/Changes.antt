@@ -41,8 +41,8 @@ pub one_written : {n : ℕ} {f : ℕ → List ℕ} {b : List ℕ} → Records n 
     → ((i : ℕ) → i < n → i ≢ s → f i ≡ record_of t' i)
     → Records n (record_of t') (with_record b s (fields x place))
 unfolding task_record
-one_written r t' s x place l is_used_lem task stands others =
-    with_record_lem r s (fields x place) l refl (rw (stands, task, is_used_lem)) others
+one_written r t' s x place l in_use task stands others =
+    with_record_lem r s (fields x place) l refl (rw (stands, task, in_use)) others
 
 -- the task that a record has in another state is the table's
 pub left_is : {n used a : ℕ} {w : ℕ → Bool} {t : Table} {b count : List ℕ} → Stage n used a w t b count

@@ -10,7 +10,7 @@ use Rattle.kernel.specs.Table.{slots}
 use Rattle.image.specs.Bytes.{record_at}
 use Rattle.image.specs.Record.{record_length, record_of}
 use Rattle.image.specs.Image.{image_of, table_of, is_image}
-use Rattle.image.proofs.Bytes.{length-inOrder}
+use Rattle.image.proofs.Bytes.{length_in_order}
 use Rattle.image.proofs.Record.{length_record_of}
 use Rattle.image.proofs.Laws.{write_back}
 use Rattle.image.proofs.Exact.{image_is, record_found}
@@ -20,7 +20,7 @@ use Rattle.records.specs.Records.{Records}
 pub image_records : (n : ℕ) (t : Table) → slots t ≡ n → Records n (record_of t) (image_of t)
 image_records n t size =
     record {
-      size = rw (image_is t n size) (length-inOrder record_length (record_of t) (length_record_of t) n);
+      size = rw (image_is t n size) (length_in_order record_length (record_of t) (length_record_of t) n);
       each = λ s h. record_found t s (omega arith);
     }
 

@@ -59,12 +59,12 @@ module _ {n used a : ℕ} {w : ℕ → Bool} {t : Table} {b count : List ℕ} (g
   joined_records : {after : ℕ} (x : Task) → Rules n used after (with_joined t s k x) → is_used x.state ≡ true → standing n x ≡ k
       → ((j : ℕ) → j < n → j ≢ s → w j ≡ false)
       → Records n (record_of (with_joined t s k x)) (with_record b s (fields x (queue_at t k).len))
-  joined_records x f is_used_lem own alone =
+  joined_records x f in_use own alone =
       let t' = with_joined t s k x in
       let old = g.rules.lined.holds in
       let new = f.lined.holds in
       let here : task_at t' s ≡ x = get_or-set_same t.tasks s x no_task (omega (arith, g.rules.tasks.fits, g.rules.size)) in
-      one_written g.records t' s x (queue_at t k).len (omega (arith, g.rules.tasks.fits)) is_used_lem here
+      one_written g.records t' s x (queue_at t k).len (omega (arith, g.rules.tasks.fits)) in_use here
       (stored_in n t' s f.size (ap (standing n) here ∙ own) h ∙ joins_last k s old new within space)
       (λ i m ne. same_record n t t' g.rules.size f.size i (get_or-set_other t.tasks s i x no_task ne)
       (λ j stands low. joins_other k s old new within space i j m (rw (alone i m ne) stands) (omega (arith, g.rules.lined.shaped.count))))
@@ -103,15 +103,15 @@ module _ {n used c : ℕ} {t : Table} {b count : List ℕ} (g : Stage n used c n
       → ((e : ℕ) → e < events → event_queue e ≡ k → may_wait t.edition ((queue_at t k).len + 1) ≡ true)
       → Stage n used n nobody (left_as (queued t k (mark_of c)) c st Nothing) (left_bytes b c st Nothing (queue_at t k).len) count
   unfolding queued
-  queues_stage k st is_used_lem still unready unblocked good past h stands quiet fits =
+  queues_stage k st in_use still unready unblocked good past h stands quiet fits =
       let f = g.rules in
       let x = task_as st Nothing (task_at t c) in
       let l : c < used = slot_used f (rw runs) in
-      let rules = queued_kept f c n k st (rw runs) (λ ne. absurd (ne refl)) is_used_lem still unready unblocked good h stands quiet fits in
+      let rules = queued_kept f c n k st (rw runs) (λ ne. absurd (ne refl)) in_use still unready unblocked good h stands quiet fits in
       rw (left_is g c (omega (arith, f.tasks.fits)) st Nothing)
       (record {
         rules = rules;
-        records = joined_records g c k l (free n (task_at t c) (rw runs)).nowhere h x rules is_used_lem stands (λ _ _ _. refl);
+        records = joined_records g c k l (free n (task_at t c) (rw runs)).nowhere h x rules in_use stands (λ _ _ _. refl);
         counts = λ p m. rw (get_or-set_other t.queues k p _ no_row (λ e. omega arith)) (g.counts p m);
         long = g.long;
       })

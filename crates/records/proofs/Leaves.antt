@@ -162,7 +162,7 @@ module _ {n used a : ℕ} {t : Table} {b count : List ℕ} (g : Stage n used a n
       let new = free n x stays in
       let nowhere = stored_none n t' s size (ap (standing n) replaced.here ∙ new.nowhere) (le_refl (queues_for n)) in
       rw (closed_left st Nothing)
-      (head_written t' (fields x 0) refl (rw (nowhere, replaced.here, new.is_used_lem))
+      (head_written t' (fields x 0) refl (rw (nowhere, replaced.here, new.in_use))
       (λ i ne. same_record n (head_gone t k) t' g.rules.size size i (replaced.other i ne) (λ _ _ _. refl)))
 
 module _ {n used a : ℕ} {t : Table} {b count : List ℕ} (g : Stage n used a nobody t b count) where

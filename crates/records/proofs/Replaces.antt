@@ -55,8 +55,8 @@ module _ {n used a : ℕ} {t : Table} {b count : List ℕ} (g : Stage n used a n
 
   replaced_records : (s : ℕ) (x : Task) (place : ℕ) → s < n → is_used x.state ≡ true → stored_place (with_task t s x) s ≡ place
       → Records n (record_of (with_task t s x)) (with_record b s (fields x place))
-  replaced_records s x place l is_used_lem stands =
-      one_written g.records (with_task t s x) s x place l is_used_lem (here x l) stands
+  replaced_records s x place l in_use stands =
+      one_written g.records (with_task t s x) s x place l in_use (here x l) stands
       (λ i _ ne. same_record n t (with_task t s x) g.rules.size (sized s x) i
       (get_or-set_other t.tasks s i x no_task ne) (λ _ _ _. refl))
 
@@ -96,7 +96,7 @@ module _ {n used c : ℕ} {t : Table} {b count : List ℕ} (g : Stage n used c n
       record {
         rules = halted_kept f c n st (rw runs) (λ ne. absurd (ne refl)) stays still good quiet;
         records = rw (left_is g c inside st Nothing)
-            (replaced_records g c x 0 inside new.is_used_lem
+            (replaced_records g c x 0 inside new.in_use
             (stored_none n (with_task t c x) c (sized g c x) (ap (standing n) (here g x inside) ∙ new.nowhere) (le_refl (queues_for n))));
         counts = g.counts;
         long = g.long;

@@ -103,7 +103,7 @@ module _ {a : ℕ} (t : Table) (f : TasksFacts (slots t) (used_slots t) a (task_
       let s = slot_named g in
       let code = eqb-true (state_code x.state) 4 e in
       let (some, near, other) = (state_facts (used_slots t) j x.state (f.each j (used_slot t f j (rw code))).state).target e in
-      let is_used_lem = (f.each s (omega arith)).is_used_lem in
+      let in_use = (f.each s (omega arith)).in_use in
       let row = rows.row (send_queue s) (omega (arith, count, f.fits)) in
       let stands : standing n x ≡ send_queue s = rw (ne_eqb (state_code x.state) 2 (omega (arith, code)), e) in
       true_both (lt-ltb 0 g (omega arith))
@@ -112,7 +112,7 @@ module _ {a : ℕ} (t : Table) (f : TasksFacts (slots t) (used_slots t) a (task_
       let (p, inside, holds) = row.found j l (eq-eqb (standing n x) (send_queue s) stands) in
       let none : (queue_at t (send_queue s)).len ≡ 0 = quiet s (omega (arith, f.fits)) (rw gone (or-true (is_send_blocked (task_at t s).state))) in
       absurd (omega (arith, inside)))
-      (λ stays. lives (task_at t s).state is_used_lem stays))))
+      (λ stays. lives (task_at t s).state in_use stays))))
 
   -- what the check asks of each slot is what the rules ask of all
   pub quiet_targets : all_quiet t ≡ (good_receivers t && good_targets t)

@@ -4,7 +4,7 @@ use mathlib.Core.Path.{◌≡◌, refl, sym, ap, ◌∙◌}
 use mathlib.Core.Bool.{true}
 use mathlib.Core.List.{List, [], ◌∷◌, ◌++◌, append-nil, append_assoc}
 use native.Mathlib.Omega.{arith}
-use lib.ListN.{length, take, drop}
+use lib.ListN.{take, drop}
 use lib.Seq.{take-take}
 use borrow.Author.Tests.{eq-eqb, ne_eqb, lt-ltb}
 use Rattle.queue.specs.Choose.{choose}
@@ -30,7 +30,7 @@ use Rattle.laws.proofs.Sees.{not_caller, steps_good}
 use Rattle.laws.proofs.Laws.{send_reaches, receive_reaches, result_is_kept}
 use Rattle.server.specs.declared.phase.Phase.{Phase}
 use Rattle.server.specs.declared.phase.Phase.TheVariants.{Making, Made, Writing, Replying, Listening}
-use Rattle.server.specs.Service.{Service, Serving, request, serving}
+use Rattle.server.specs.Service.{Service, Serving, serving}
 use Rattle.served.specs.World.{World, bytes_in, area_of, decided, areas_after, state_asked, advanced, ended, Obeys}
 use Rattle.served.specs.Letters.{Letter, letter_in, letters_to, read_in, read_now, read, unread}
 use Rattle.served.specs.Laws.{Fits, Begins, LettersAreRead}

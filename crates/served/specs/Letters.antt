@@ -1,5 +1,5 @@
 -- The messages that the kernel brings to a task, those that its server reads, and what the server sends.
-use Rattle.std.specs.Prelude.{ℕ, min, Bool, true, false, not, ◌&&◌, List, [], ◌∷◌, ◌++◌, map, take, drop, length, eqb}
+use Rattle.std.specs.Prelude.{ℕ, min, Bool, true, false, not, ◌&&◌, List, [], ◌∷◌, ◌++◌, map, take, drop, eqb}
 use Rattle.queue.specs.Choose.{choose}
 use Rattle.tid.specs.Tid.{slot_named}
 use Rattle.task.specs.declared.task.Result.{Result}

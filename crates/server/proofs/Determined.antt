@@ -6,7 +6,7 @@ use Rattle.server.proofs.words.word_at.Reads as word_at
 use Rattle.server.proofs.words.byte_of.Reads as byte_of
 use Rattle.server.proofs.words.put_word.Reads as put_word
 use Rattle.server.proofs.records.put_request.Reads as put_request
-use Rattle.server.proofs.records.result_in.Reads as result_in_lem
+use Rattle.server.proofs.records.result_in.Reads as result_in
 use Rattle.server.proofs.phase.ask.Reads as ask
 use Rattle.server.proofs.phase.place.Reads as place
 use Rattle.server.proofs.phase.request_in.Reads as request_in
@@ -25,7 +25,7 @@ put_word_determined κs a r r' s s' p p' = (refl, p ∙⁻¹ p')
 put_request_determined : (κs : _) (a : _) → Determines (put_request.Post κs a) (λ s. s.1.0.now)
 put_request_determined κs a r r' s s' p p' = (refl, p ∙⁻¹ p')
 
-result_in_determined : (κs : _) (a : _) → DeterminesResult (result_in_lem.Post κs a)
+result_in_determined : (κs : _) (a : _) → DeterminesResult (result_in.Post κs a)
 result_in_determined κs a r r' s s' p p' = (p ∙⁻¹ p', refl)
 
 ask_determined : (κs : _) (a : _) → DeterminesResult (ask.Post κs a)

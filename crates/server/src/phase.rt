@@ -8,7 +8,7 @@ use kernel::table::Request;
 
 // What is asked next: a task is made, or was and the server waits to be told which; a byte of the answer is written; the answer is replied
 // to one after another; or a message is waited for.
-#[derive(Drop)]
+#[derive(Clone, Copy, Drop)]
 pub enum Phase {
     Making,
     Made,

@@ -2,10 +2,13 @@
 //
 // A start is sixteen bytes, the edition, the priority, the entry number and the image's length, each a word with the lowest byte first. For
 // each the verdict is written as a word, and then the image, whose bytes were all 0xA5 before the call.
-use chunks::write_word;
+#![tactic(auto)]
+
+use chunks::{read_full, write_word};
 use entry::kernel_start;
 use image::words::word;
-use libc::{STDERR_FILENO, STDIN_FILENO, STDOUT_FILENO};
+use std::io;
+use std::io::Read;
 
 // How long a start is.
 const START: usize = 16;
@@ -16,44 +19,53 @@ const MOST: usize = 16384;
 // What an image holds before the call, so that every byte written is seen.
 const BEFORE: u8 = 0xA5;
 
-// Starts a kernel, and writes what came of it. Answers whether all was written.
-fn call(edition: u32, priority: u32, entry: u32, image: &mut [u8]) -> bool {
+// Starts a kernel, and writes what came of it.
+fn call(
+    rt: &impl Print,
+    edition: u32,
+    priority: u32,
+    entry: u32,
+    image: &mut [u8],
+) -> io::Result<()> {
     let verdict = kernel_start(edition, priority, entry, &mut *image);
-    write_word(verdict as usize) && io::write_all(STDOUT_FILENO, &*image)
+    write_word(rt, verdict as usize)?;
+    rt.write_all(&*image)
 }
 
 // One start. Answers whether to go on.
-fn run_start() -> bool {
+fn run_start<R: Read>(rt: &(impl Print + Eprint), from: &mut R) -> io::Result<bool> {
     let mut asked = [0u8; START];
-    let got = io::read_full(STDIN_FILENO, &mut asked);
+    let got = read_full(from, &mut asked)?;
     if got == 0 {
-        return false;
+        return Ok(false);
     }
     if got < START {
-        io::write_all(STDERR_FILENO, b"start_cases: the last start is cut short\n");
-        return false;
+        eprintln!(rt; "start_cases: the last start is cut short")?;
+        return Ok(false);
     }
     let length = word(asked[12], asked[13], asked[14], asked[15]) as usize;
     if MOST < length {
-        io::write_all(
-            STDERR_FILENO,
-            b"start_cases: an image is longer than 16384 bytes\n",
-        );
-        return false;
+        eprintln!(rt; "start_cases: an image is longer than 16384 bytes")?;
+        return Ok(false);
     }
     let mut image = [BEFORE; MOST];
     call(
+        rt,
         word(asked[0], asked[1], asked[2], asked[3]),
         word(asked[4], asked[5], asked[6], asked[7]),
         word(asked[8], asked[9], asked[10], asked[11]),
         &mut image[..length],
-    )
+    )?;
+    Ok(true)
 }
 
 // A proved loop has to end, and nothing says that the input does.
-fn main() {
-    let mut turns = u64::MAX;
-    while 0 < turns && run_start() {
-        turns -= 1;
+fn main(rt: HostRuntime) -> io::Result<()> {
+    let mut from = rt.reader();
+    for _ in 0..u64::MAX {
+        if !run_start(&rt, &mut from)? {
+            break;
+        }
     }
+    Ok(())
 }

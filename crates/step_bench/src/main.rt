@@ -1,12 +1,15 @@
 // Steps the request records of standard input from a fresh kernel and writes all that came of it: the answers, the areas, and the
 // image at the end. No input, no output. `bench/run` counts what a step takes by the difference of two inputs.
+#![tactic(auto)]
+
+use chunks::read_full;
 use image::call::{ANSWER, REQUEST, put_answer, request_from};
 use image::stored::{IMAGE, write};
 use kernel::edition::ONE_WAITS;
 use kernel::numbers::ACCEPTED;
 use kernel::table::Table;
-use libc::{STDIN_FILENO, STDOUT_FILENO};
 use rules::start;
+use std::io;
 use step::step;
 use tid::sizes::{AREA, SLOTS};
 
@@ -15,7 +18,9 @@ const FIRST: u32 = 16;
 
 const FIRST_ENTRY: u32 = 0;
 
-// As many records as the buffer holds; others are not read.
+// As many bytes as are read, and as many records as they hold.
+const BYTES: usize = 65536;
+
 const MOST: usize = 2730;
 
 // One record after another. The decision is carried, since the table alone would be copied once more.
@@ -40,27 +45,43 @@ fn stepped(first: Table, records: &[u8], areas: &mut [u8], answers: &mut [u8]) -
 }
 
 // Steps all records and writes what came of them.
-fn shown(first: Table, records: &[u8], areas: &mut [u8], answers: &mut [u8], image: &mut [u8]) {
+fn shown(
+    rt: &impl Print,
+    first: Table,
+    records: &[u8],
+    areas: &mut [u8],
+    answers: &mut [u8],
+    image: &mut [u8],
+) -> io::Result<()> {
     let last = stepped(first, records, &mut *areas, &mut *answers);
     write(last, &mut *image);
     let count = records.len() / REQUEST;
     if count <= answers.len() / ANSWER {
         let end = count * ANSWER;
-        io::write_all(STDOUT_FILENO, &answers[..end]);
-        io::write_all(STDOUT_FILENO, &*areas);
-        io::write_all(STDOUT_FILENO, &*image);
+        rt.write_all(&answers[..end])?;
+        rt.write_all(&*areas)?;
+        rt.write_all(&*image)?;
     }
+    Ok(())
 }
 
-fn main() {
-    let mut records = io::large_buffer();
-    let n = io::read_full(STDIN_FILENO, &mut records);
+fn main(rt: HostRuntime) -> io::Result<()> {
+    let mut records = [0u8; BYTES];
+    let n = read_full(&mut rt.reader(), &mut records)?;
     if 0 < n {
         let started = start(ONE_WAITS, FIRST, FIRST_ENTRY);
         let first = started.table;
         let mut areas = [0u8; SLOTS * AREA];
         let mut answers = [0u8; MOST * ANSWER];
         let mut image = [0u8; IMAGE];
-        shown(first, &records[..n], &mut areas, &mut answers, &mut image);
+        shown(
+            &rt,
+            first,
+            &records[..n],
+            &mut areas,
+            &mut answers,
+            &mut image,
+        )?;
     }
+    Ok(())
 }

@@ -1,7 +1,4 @@
 // A task's waiting result is taken out of its own record.
-//
-// No plan of the borrow checker covers a reference to a struct, so the two functions here are proved by a walk of their
-// code. Whoever calls `taken` passes and gets values, and is covered.
 ghost use Rattle.std.specs.Prelude.{◌≡◌};
 ghost use Rattle.task.specs.Result as Shown;
 ghost use Rattle.task.specs.Task.{cleared, taken_from};

@@ -1,4 +1,6 @@
 // How a slot is written down: as a mark in a queue, and as a tid to whoever is outside.
+#![tactic(auto)]
+
 pub mod sizes;
 
 ghost use Rattle.std.specs.Prelude.{◌≡◌, ◌≤◌, min};
