@@ -57,8 +57,16 @@ def words(crate):
     return found + ["--crate-type", "staticlib"] * is_static(crate)
 
 
+def main(crate="", *more):
+    if crate in ("--help", "-h") and not more:
+        print(__doc__)
+        return 0
+    if crate not in depends() or more:
+        print(f"tools/rattle.py: '{' '.join((crate, *more))}' is no crate of crates.txt (tools/rattle.py --help)", file=sys.stderr)
+        return 2
+    print(" ".join(words(crate)))
+    return 0
+
+
 if __name__ == "__main__":
-    if sys.argv[1:] and sys.argv[1] in depends():
-        print(" ".join(words(sys.argv[1])))
-    else:
-        sys.exit("tools/rattle.py: the name of a crate is missing")
+    sys.exit(main(*sys.argv[1:]))

@@ -20,7 +20,7 @@ use queue::numbering::QUEUES;
 use tid::sizes::{PRIORITIES, SLOTS};
 
 // What the passes find: how many slots are used, which is active (SLOTS where none is), and how many stand in each queue.
-#[derive(Drop)]
+#[derive(Clone, Copy, Drop)]
 pub struct Found {
     pub good: bool,
     pub used: usize,

@@ -1,4 +1,4 @@
--- What a host calls leaves no choice: entry's own theorems.
+-- What the byte entry promises leaves no choice: theorems of crates/entry. Those of the exported functions stand in crates/entry_c.
 use Rattle.entry.proofs.Determined.{kernel_step_determined_lem, kernel_start_determined_lem, kernel_convert_determined_lem}
 use Rattle.calls.specs.Determined.{KernelStepDetermined, KernelStartDetermined, KernelConvertDetermined}
 

@@ -84,11 +84,12 @@ pub fn read_chunk<R: Read>(from: &mut R, buffer: &mut [u8]) -> io::Result<usize>
 }
 
 // Says why a program does not run a case, by what stands in place of a word or a length.
-pub fn complain(rt: &impl Eprint, program: &str, n: usize) -> io::Result<()> {
+pub fn complain(err: &impl Print, program: &[u8], n: usize) -> io::Result<()> {
+    err.write_all(program)?;
     if n == LONG {
-        eprintln!(rt; "{program}: a chunk is longer than 16384 bytes")
+        println!(err; ": a chunk is longer than 16384 bytes")
     } else {
-        eprintln!(rt; "{program}: the last case is cut short")
+        println!(err; ": the last case is cut short")
     }
 }
 

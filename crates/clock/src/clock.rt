@@ -7,7 +7,7 @@ use crate::row::{Hearers, ROOM, Row, Sleeper};
 use std::num::{wrapping_add_u32, wrapping_sub_u32};
 use task::task::FIRST_NEGATIVE;
 
-#[derive(Drop)]
+#[derive(Clone, Copy, Drop)]
 pub struct Clock {
     // Whose ticks count.
     pub notifier: u32,
@@ -34,7 +34,7 @@ pub enum Said {
 }
 
 // The clock after a message, who is answered and what each of them is told.
-#[derive(Drop)]
+#[derive(Clone, Copy, Drop)]
 pub struct Heard {
     pub clock: Clock,
     pub said: Said,

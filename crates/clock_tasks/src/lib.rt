@@ -1,4 +1,4 @@
-// The clock, its notifier and its clients as tasks above the kernel, for C hosts.
+// The clock, its notifier and its clients as tasks above the kernel, for C hosts, which call them by the names of crates/clock_tasks_c.
 #![tactic(auto)]
 
 mod client;

@@ -8,7 +8,7 @@ use clock::row::{HEARERS, Hearers};
 use server::phase::Phase;
 use task::task::Result;
 
-#[derive(Drop)]
+#[derive(Clone, Copy, Drop)]
 pub struct Server {
     // That of the notifier that it makes.
     pub priority: u8,

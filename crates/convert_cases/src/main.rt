@@ -10,8 +10,8 @@ use std::io;
 use std::io::Read;
 
 // Says why a case is not run, and that there is no other.
-fn refuse(rt: &impl Eprint, n: usize) -> io::Result<bool> {
-    complain(rt, "convert_cases", n)?;
+fn refuse(err: &impl Print, n: usize) -> io::Result<bool> {
+    complain(err, b"convert_cases", n)?;
     Ok(false)
 }
 
@@ -24,23 +24,23 @@ fn call(rt: &impl Print, edition: u32, image: &[u8], out: &mut [u8]) -> io::Resu
 }
 
 // One conversion. Answers whether to go on.
-fn run_case<R: Read>(rt: &(impl Print + Eprint), from: &mut R) -> io::Result<bool> {
+fn run_case<R: Read>(rt: &impl Print, err: &impl Print, from: &mut R) -> io::Result<bool> {
     let edition = read_word(from)?;
     if edition == ENDED {
         return Ok(false);
     }
     if LARGEST < edition {
-        return refuse(rt, edition);
+        return refuse(err, edition);
     }
     let mut image = [0u8; MOST];
     let mut out = [0u8; MOST];
     let a = read_chunk(from, &mut image)?;
     if MOST < a {
-        return refuse(rt, a);
+        return refuse(err, a);
     }
     let b = read_chunk(from, &mut out)?;
     if MOST < b {
-        return refuse(rt, b);
+        return refuse(err, b);
     }
     call(rt, edition as u32, &image[..a], &mut out[..b])?;
     Ok(true)
@@ -50,7 +50,7 @@ fn run_case<R: Read>(rt: &(impl Print + Eprint), from: &mut R) -> io::Result<boo
 fn main(rt: HostRuntime) -> io::Result<()> {
     let mut from = rt.reader();
     for _ in 0..u64::MAX {
-        if !run_case(&rt, &mut from)? {
+        if !run_case(&rt, &rt.stderr(), &mut from)? {
             break;
         }
     }

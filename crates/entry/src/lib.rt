@@ -1,4 +1,4 @@
-// The byte entry: what a C host calls. It lends bytes, and finds in them what the kernel made of its request.
+// The byte entry: what a C host calls, by the names of crates/entry_c. It lends bytes, and finds in them what the kernel made of its request.
 #![tactic(auto)]
 
 ghost use Rattle.std.specs.Prelude.{◌≡◌, ◌*◌, ◌||◌, length, replicate, eqb};

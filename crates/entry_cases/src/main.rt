@@ -10,8 +10,8 @@ use std::io;
 use std::io::Read;
 
 // Says why a case is not run, and that there is no other.
-fn refuse(rt: &impl Eprint, n: usize) -> io::Result<bool> {
-    complain(rt, "entry_cases", n)?;
+fn refuse(err: &impl Print, n: usize) -> io::Result<bool> {
+    complain(err, b"entry_cases", n)?;
     Ok(false)
 }
 
@@ -33,26 +33,31 @@ fn call(
 }
 
 // The chunks of a case, whose edition was read. Answers whether to go on.
-fn run_chunks<R: Read>(rt: &(impl Print + Eprint), from: &mut R, edition: u32) -> io::Result<bool> {
+fn run_chunks<R: Read>(
+    rt: &impl Print,
+    err: &impl Print,
+    from: &mut R,
+    edition: u32,
+) -> io::Result<bool> {
     let mut image = [0u8; MOST];
     let mut areas = [0u8; MOST];
     let mut record = [0u8; MOST];
     let mut answer = [0u8; MOST];
     let a = read_chunk(from, &mut image)?;
     if MOST < a {
-        return refuse(rt, a);
+        return refuse(err, a);
     }
     let b = read_chunk(from, &mut areas)?;
     if MOST < b {
-        return refuse(rt, b);
+        return refuse(err, b);
     }
     let c = read_chunk(from, &mut record)?;
     if MOST < c {
-        return refuse(rt, c);
+        return refuse(err, c);
     }
     let d = read_chunk(from, &mut answer)?;
     if MOST < d {
-        return refuse(rt, d);
+        return refuse(err, d);
     }
     call(
         rt,
@@ -66,22 +71,22 @@ fn run_chunks<R: Read>(rt: &(impl Print + Eprint), from: &mut R, edition: u32) -
 }
 
 // One case. Answers whether to go on.
-fn run_case<R: Read>(rt: &(impl Print + Eprint), from: &mut R) -> io::Result<bool> {
+fn run_case<R: Read>(rt: &impl Print, err: &impl Print, from: &mut R) -> io::Result<bool> {
     let edition = read_word(from)?;
     if edition == ENDED {
         return Ok(false);
     }
     if LARGEST < edition {
-        return refuse(rt, edition);
+        return refuse(err, edition);
     }
-    run_chunks(rt, from, edition as u32)
+    run_chunks(rt, err, from, edition as u32)
 }
 
 // A proved loop has to end, and nothing says that the input does.
 fn main(rt: HostRuntime) -> io::Result<()> {
     let mut from = rt.reader();
     for _ in 0..u64::MAX {
-        if !run_case(&rt, &mut from)? {
+        if !run_case(&rt, &rt.stderr(), &mut from)? {
             break;
         }
     }

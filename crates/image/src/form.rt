@@ -8,7 +8,7 @@ use crate::fields::RECORD;
 use tid::sizes::SLOTS;
 
 // A row of the table of forms: for how many slots it has records, how many bytes a record has, and whether a record holds an entry number.
-#[derive(Drop)]
+#[derive(Clone, Copy, Drop)]
 pub struct Form {
     pub slots: usize,
     pub bytes: usize,

@@ -29,7 +29,7 @@ pub const IMAGE: usize = SLOTS * RECORD;
 
 // What reading an image gives: a table, its active slot (SLOTS where none is) and a verdict of 0, which is no refusal.
 // Refused, the table has every slot unused.
-#[derive(Drop)]
+#[derive(Clone, Copy, Drop)]
 pub struct Reading {
     pub table: Table,
     pub active: usize,

@@ -26,7 +26,7 @@ use tid::sizes::AREA;
 use tid::tid_of;
 
 // What a request leaves besides the image.
-#[derive(Drop)]
+#[derive(Clone, Copy, Drop)]
 pub struct Shown {
     pub answer: Answer,
     pub effect: Effect,

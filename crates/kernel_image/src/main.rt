@@ -83,7 +83,7 @@ fn main(rt: HostRuntime) -> io::Result<()> {
     let word = word_at(&rt, 1);
     let edition = edition_of(word_at(&rt, 2));
     if answered(&rt, word, edition, &bytes[..n]).is_err() {
-        eprintln!(rt; "kernel-image: standard output cannot be written")?;
+        let _ = eprintln!(rt; "kernel-image: standard output cannot be written");
     }
     Ok(())
 }

@@ -15,7 +15,7 @@ use rules::start;
 use step::step;
 
 // Where a run stands between two blocks: the table, the number of the next step, and where its line goes in the buffer.
-#[derive(Drop)]
+#[derive(Clone, Copy, Drop)]
 pub struct Block {
     pub table: Table,
     pub step: u64,

@@ -14,7 +14,7 @@ loop-p-preserved c =
       c.loop-p.invariant.0,
       c.loop-p.invariant.1,
       reading_more c.loop-p.invariant.2 (omega arith) (omega arith) c.slot_of-s.result c.slot_of-s.ensures.0 c.if-mark-eq0.false (omega arith)
-          c.if-keys-s.false (omega arith),
+          (omega arith) (omega arith),
     )
 
 pub rows-preserved : goal.rows-preserved
