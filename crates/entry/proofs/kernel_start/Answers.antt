@@ -20,13 +20,11 @@ returns-then-image-ne-IMAGE c = let a = c.args in
     start_wrong slot_count a.edition a.priority a.entry a.image.now (sym c.is_edition.ensures ∙ c.if-not-is_edition.false) (omega arith) (λ e. omega arith)
 
 pub bounds-image-1 : goal.bounds-image-1
-bounds-image-1 c = omega (arith, length-set c.put_entry.new.image 0 _)
+bounds-image-1 c = omega (arith, length-set {A = ℕ})
 
 -- two bytes are stored over bytes of one length
 pub shape_of-image : goal.shape_of-image
-shape_of-image c = let priority = c.args.priority in
-    let bytes : List ℕ = c.put_entry.new.image in
-    omega (arith, length-set bytes at_state _, length-set (set bytes at_state _) at_priority priority)
+shape_of-image c = omega (arith, length-set {A = ℕ})
 
 pub returns : goal.returns
 returns c = let edition = c.args.edition in
