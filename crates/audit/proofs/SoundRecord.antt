@@ -15,7 +15,7 @@ use Rattle.queue.proofs.Below.{both_true, true_both, by_test, same_test}
 use Rattle.tid.specs.Sizes.{priorities, events}
 use Rattle.tid.specs.Tid.{slot_named}
 use Rattle.task.specs.declared.task.Buffer.{Buffer}
-use Rattle.task.specs.declared.task.Result.{Result}
+use Rattle.task.specs.declared.task.Outcome.{Outcome}
 use Rattle.task.specs.declared.task.State.{State}
 use Rattle.task.specs.Task.{first_negative, no_task, is_word, good_buffer, is_ready}
 use Rattle.task.specs.Result.{negated}
@@ -216,7 +216,7 @@ sound_record ed used s r small some =
     (place_fits ed (byte_in r at_state) (byte_in r at_place)) entry)
 
 -- the queue that a task stands in, by the code of its state
-queue_told : (none code priority parent awaited entry : ℕ) (message reply : Buffer) (result : Result)
+queue_told : (none code priority parent awaited entry : ℕ) (message reply : Buffer) (result : Outcome)
     → choose (eqb code 2) (ready_queue priority)
     (choose (eqb code 4) (send_queue (slot_named awaited)) (choose (eqb code 6) (event_queue awaited) none))
     ≡ queue_of none (choose (eqb code 0) no_task (record { state = state_of code awaited message reply; priority = priority; parent = parent; entry = entry; result = result }))

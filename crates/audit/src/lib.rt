@@ -12,14 +12,15 @@ ghost use Rattle.image.specs.Record.{record_length};
 ghost use Rattle.audit.specs.Audit.{rest_blank, found_in};
 
 use crate::places::all_judged;
-use crate::survey::surveyed;
+use crate::survey::{Seen, surveyed};
 use image::fields::RECORD;
 use image::stored::IMAGE;
 use kernel::edition::is_edition;
 use queue::numbering::QUEUES;
 use tid::sizes::{PRIORITIES, SLOTS};
 
-// What the passes find: how many slots are used, which is active (SLOTS where none is), and how many stand in each queue.
+// What the passes find: how many slots are used, which is active, and how many stand in each queue. Where none is active it is SLOTS: an
+// Option took the C host more stack.
 #[derive(Clone, Copy, Drop)]
 pub struct Found {
     pub good: bool,
@@ -28,16 +29,15 @@ pub struct Found {
     pub count: [u8; QUEUES],
 }
 
-// Whether every byte from the record of a slot on is 0: their bits together, so that the compiler may look at many at once.
+// Whether every byte from the record of a slot on is 0: their bits together, so that the compiler may look at many at once. The loop counts,
+// as all here: an iterator hands out an Option of a reference, which boards with pointers of 32 bits read wrongly.
 fn rest_blank(image: &[u8], used: usize) -> bool
     requires { (used ≤ slot_count) × (length image.now ≡ slot_count * record_length) }
     ensures { result ≡ rest_blank slot_count image.now used }
 {
     let mut bits = 0u8;
-    let mut i = used * RECORD;
-    while i < IMAGE {
+    for i in used * RECORD..IMAGE {
         bits |= image[i];
-        i += 1;
     }
     bits == 0
 }
@@ -50,10 +50,8 @@ fn active_if_ready(count: [u8; QUEUES], active: usize) -> bool
         return true;
     }
     let mut none = true;
-    let mut p = 0;
-    while p < PRIORITIES {
+    for p in 0..PRIORITIES {
         none &= count[p] == 0;
-        p += 1;
     }
     none
 }
@@ -70,10 +68,11 @@ pub fn check(edition: u32, image: &[u8]) -> Found
             count: [0; QUEUES],
         };
     }
-    let seen = surveyed(image);
-    let used = seen.used;
-    let active = seen.active;
-    let count = seen.count;
+    let Seen {
+        used,
+        active,
+        count,
+    } = surveyed(image);
     let good = is_edition(edition)
         & (1 <= used)
         & rest_blank(image, used)

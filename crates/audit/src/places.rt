@@ -20,18 +20,11 @@ fn judged(edition: u32, image: &[u8], s: usize, used: usize, active: usize, send
     ensures { result ≡ judged_at edition image.now used active senders s }
 {
     let at = s * RECORD;
-    let code = image[at + STATE];
-    if code == ACTIVE {
-        if s != active {
-            return false;
-        }
+    match image[at + STATE] {
+        ACTIVE if s != active => false,
+        SEND_BLOCKED | EXITED if senders != 0 => false,
+        _ => sound(edition, &image[at..at + RECORD], s, used),
     }
-    if (code == SEND_BLOCKED) | (code == EXITED) {
-        if senders != 0 {
-            return false;
-        }
-    }
-    sound(edition, &image[at..at + RECORD], s, used)
 }
 
 // Each queue has as many places in a row as it has members, given out when its first member is met: a place that is below their number
@@ -49,14 +42,12 @@ pub(crate) fn all_judged(
     let mut base = [0u8; QUEUES];
     let mut taken = [0u8; SLOTS];
     let mut given = 0u8;
-    let mut s = 0;
-    while s < used {
+    for s in 0..used {
         if !judged(edition, image, s, used, active, count[FIRST_SEND + s]) {
             return false;
         }
         let k = queue_at(image, s);
         if QUEUES <= k {
-            s += 1;
             continue;
         }
         let place = image[s * RECORD + PLACE];
@@ -66,14 +57,13 @@ pub(crate) fn all_judged(
         }
         if base[k] == 0 {
             base[k] = given + 1;
-            given = given + many;
+            given += many;
         }
         let i = wide(base[k]) - 1 + wide(place);
         if taken[i] != 0 {
             return false;
         }
         taken[i] = 1;
-        s += 1;
     }
     true
 }

@@ -9,7 +9,7 @@ use image::fields::{
     AWAITED, CUT, FAULT, FROM, MESSAGE, MINUS_ONE, NOTHING, PARENT, PLACE, PRIORITY, REPLY, RESULT,
     STATE, VALUE, WORD,
 };
-use image::words::{short, word};
+use image::words::short;
 use kernel::edition::may_join;
 use queue::wide;
 use rules::slots::good_parent;
@@ -23,7 +23,7 @@ fn word_at(r: &[u8], at: usize) -> u32
     requires { at + 4 ≤ length r.now }
     ensures { result ≡ number_in r.now at 4 }
 {
-    word(r[at], r[at + 1], r[at + 2], r[at + 3])
+    u32::from_le_bytes([r[at], r[at + 1], r[at + 2], r[at + 3]])
 }
 
 fn blank_word(r: &[u8], at: usize) -> bool
@@ -42,21 +42,20 @@ fn fits_area(r: &[u8], at: usize) -> bool
 }
 
 // The result of a ready task.
+#[tactic(auto, unfolding(crate::specs::Sound::result_sound))]
 fn good_result(r: &[u8], used: usize) -> bool
     requires { length r.now ≡ record_length }
     ensures { result ≡ result_sound used r.now }
 {
-    let kind = r[RESULT];
     let from = r[FROM];
     let cut = r[CUT];
     let value = word_at(r, WORD);
-    if kind == NOTHING {
-        return (from == 0) & (cut == 0) & (value == 0);
+    match r[RESULT] {
+        NOTHING => (from == 0) & (cut == 0) & (value == 0),
+        VALUE => (cut <= 1) & (value < FIRST_NEGATIVE) & (wide(from) <= used),
+        FAULT => (from == 0) & (cut == 0) & (MINUS_ONE - 3 < value),
+        _ => false,
     }
-    if kind == VALUE {
-        return (cut <= 1) & (value < FIRST_NEGATIVE) & (wide(from) <= used);
-    }
-    (kind == FAULT) & (from == 0) & (cut == 0) & (MINUS_ONE - 3 < value)
 }
 
 fn no_result(r: &[u8]) -> bool
@@ -82,6 +81,7 @@ fn good_target(target: usize, s: usize, used: usize) -> bool
 }
 
 // What a task that waits for an event holds. Its place is the number of those who came before it, whom it joined.
+#[tactic(auto, unfolding(crate::specs::Sound::waiter_sound))]
 fn good_waiter(edition: u32, r: &[u8]) -> bool
     requires { length r.now ≡ record_length }
     ensures { result ≡ waiter_sound edition r.now }
@@ -90,52 +90,42 @@ fn good_waiter(edition: u32, r: &[u8]) -> bool
 }
 
 // What a state holds in which a task stands in no queue.
+#[tactic(auto, unfolding(crate::specs::Sound::unplaced_sound))]
 fn good_unplaced(r: &[u8]) -> bool
     requires { length r.now ≡ record_length }
     ensures { result ≡ unplaced_sound r.now }
 {
-    let code = r[STATE];
     if (r[PLACE] != 0) | (r[AWAITED] != 0) {
         return false;
     }
-    if code == SEND_BLOCKED {
-        return fits_area(r, MESSAGE) & blank_word(r, REPLY);
+    match r[STATE] {
+        SEND_BLOCKED => fits_area(r, MESSAGE) & blank_word(r, REPLY),
+        REPLY_BLOCKED => blank_word(r, MESSAGE) & fits_area(r, REPLY),
+        ACTIVE | EXITED => no_buffers(r),
+        _ => false,
     }
-    if code == REPLY_BLOCKED {
-        return blank_word(r, MESSAGE) & fits_area(r, REPLY);
-    }
-    ((code == ACTIVE) | (code == EXITED)) & no_buffers(r)
 }
 
+#[tactic(auto, unfolding(crate::specs::Sound::fields_sound))]
 fn good_fields(edition: u32, r: &[u8], s: usize, used: usize) -> bool
     requires { (s < slot_count) × (length r.now ≡ record_length) }
     ensures { result ≡ fields_sound edition used s r.now }
 {
-    let code = r[STATE];
-    if code == READY {
-        return (r[AWAITED] == 0) & no_buffers(r) & good_result(r, used);
+    match r[STATE] {
+        READY => (r[AWAITED] == 0) & no_buffers(r) & good_result(r, used),
+        _ if !no_result(r) => false,
+        RECEIVE_BLOCKED => {
+            good_target(wide(r[AWAITED]), s, used) & fits_area(r, MESSAGE) & fits_area(r, REPLY)
+        }
+        EVENT_BLOCKED => good_waiter(edition, r),
+        _ => good_unplaced(r),
     }
-    if !no_result(r) {
-        return false;
-    }
-    if code == RECEIVE_BLOCKED {
-        return good_target(wide(r[AWAITED]), s, used) & fits_area(r, MESSAGE) & fits_area(r, REPLY);
-    }
-    if code == EVENT_BLOCKED {
-        return good_waiter(edition, r);
-    }
-    good_unplaced(r)
 }
 
+#[tactic(auto, unfolding(crate::specs::Sound::record_sound))]
 pub(crate) fn sound(edition: u32, r: &[u8], s: usize, used: usize) -> bool
     requires { (s < slot_count) × (length r.now ≡ record_length) }
     ensures { result ≡ record_sound edition used s r.now }
 {
-    if PRIORITIES <= wide(r[PRIORITY]) {
-        return false;
-    }
-    if !good_parent(r[PARENT], s) {
-        return false;
-    }
-    good_fields(edition, r, s, used)
+    wide(r[PRIORITY]) < PRIORITIES && good_parent(r[PARENT], s) && good_fields(edition, r, s, used)
 }

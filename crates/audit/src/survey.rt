@@ -10,22 +10,18 @@ use task::parts::{ACTIVE, EVENT_BLOCKED, READY, RECEIVE_BLOCKED, UNUSED};
 use tid::sizes::SLOTS;
 
 // The queue that a record stands in; QUEUES where it stands in none. A record that names no queue there is names a number past the last.
+#[tactic(auto, unfolding(crate::specs::Survey::queue_in))]
 pub(crate) fn queue_at(image: &[u8], s: usize) -> usize
     requires { (s < slot_count) × (length image.now ≡ slot_count * record_length) }
     ensures { result ≡ queue_in slot_count image.now s }
 {
     let r = s * RECORD;
-    let code = image[r + STATE];
-    if code == READY {
-        return ready_queue(image[r + PRIORITY]);
+    match image[r + STATE] {
+        READY => ready_queue(image[r + PRIORITY]),
+        RECEIVE_BLOCKED => send_queue(image[r + AWAITED]),
+        EVENT_BLOCKED => event_queue(image[r + AWAITED]),
+        _ => QUEUES,
     }
-    if code == RECEIVE_BLOCKED {
-        return send_queue(image[r + AWAITED]);
-    }
-    if code == EVENT_BLOCKED {
-        return event_queue(image[r + AWAITED]);
-    }
-    QUEUES
 }
 
 #[derive(Drop)]
@@ -41,10 +37,11 @@ pub(crate) fn surveyed(image: &[u8]) -> Seen
 {
     let mut count = [0u8; QUEUES];
     let mut active = SLOTS;
-    let mut s = 0;
-    while s < SLOTS {
+    let mut used = SLOTS;
+    for s in 0..SLOTS {
         let code = image[s * RECORD + STATE];
         if code == UNUSED {
+            used = s;
             break;
         }
         if code == ACTIVE {
@@ -52,12 +49,11 @@ pub(crate) fn surveyed(image: &[u8]) -> Seen
         }
         let k = queue_at(image, s);
         if k < QUEUES {
-            count[k] = count[k] + 1;
+            count[k] += 1;
         }
-        s += 1;
     }
     Seen {
-        used: s,
+        used,
         active,
         count,
     }

@@ -9,8 +9,8 @@ use std::io;
 use tid::sizes::{AREA, SLOTS};
 
 fn run_in(rt: &impl Print, edition: u32, records: &[u8]) -> io::Result<()> {
-    let mut areas = [0u8; SLOTS * AREA];
-    let mut out = [0u8; 8192];
+    let mut areas = [0; SLOTS * AREA];
+    let mut out = [0; 8192];
     let block = show_block(
         fresh_block(edition, 16, 0),
         records,
@@ -18,13 +18,14 @@ fn run_in(rt: &impl Print, edition: u32, records: &[u8]) -> io::Result<()> {
         &mut out,
         false,
     );
-    let end = block.end;
-    rt.write_all(&out[..end])
+    rt.write_all(&out[..block.end])
 }
 
 fn main(rt: HostRuntime) -> io::Result<()> {
-    let mut records = [0u8; 2048];
+    let mut records = [0; 2048];
     let n = read_full(&mut rt.reader(), &mut records)?;
-    run_in(&rt, ONE_WAITS, &records[..n])?;
-    run_in(&rt, MANY_WAIT, &records[..n])
+    for edition in [ONE_WAITS, MANY_WAIT] {
+        run_in(&rt, edition, &records[..n])?;
+    }
+    Ok(())
 }

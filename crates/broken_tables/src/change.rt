@@ -5,7 +5,7 @@ use crate::text::NUMBERS;
 use kernel::table::Table;
 use queue::Queue;
 use queue::numbering::{event_queue, ready_queue, send_queue};
-use task::task::{Buffer, Result, State, Task};
+use task::task::{Buffer, Outcome, State, Task};
 
 // The last byte of a number.
 fn narrow(number: u32) -> u8 {
@@ -40,33 +40,34 @@ fn state_of(n: [u32; NUMBERS]) -> State {
 }
 
 // A task with one part put in.
-fn changed_task(mut old: Task, what: u8, n: [u32; NUMBERS]) -> Task {
+fn changed_task(old: Task, what: u8, n: [u32; NUMBERS]) -> Task {
     let second = narrow(n[1]);
-    let state = old.state;
-    let result = old.result;
     match what {
-        b'P' => {
-            old.priority = second;
-            old
-        }
-        b'A' => {
-            old.parent = second;
-            old
-        }
-        b'G' => {
-            old.entry = n[1];
-            old
-        }
-        b'V' => old.becomes(
-            state,
-            Result::Value {
+        b'P' => Task {
+            priority: second,
+            ..old
+        },
+        b'A' => Task {
+            parent: second,
+            ..old
+        },
+        b'G' => Task { entry: n[1], ..old },
+        b'V' => {
+            let result = Outcome::Value {
                 from: second,
                 cut: n[3] == 1,
                 value: n[2],
-            },
-        ),
-        b'F' => old.becomes(state, Result::Fault(second)),
-        b'T' => old.becomes(state_of(n), result),
+            };
+            Task { result, ..old }
+        }
+        b'F' => Task {
+            result: Outcome::Fault(second),
+            ..old
+        },
+        b'T' => Task {
+            state: state_of(n),
+            ..old
+        },
         b'H' => bare(State::Unused, 0),
         b'E' => bare(State::Exited, second),
         _ => old,

@@ -12,7 +12,7 @@ mod text;
 use crate::busy::write_states;
 use crate::change::changed;
 use crate::tally::Tally;
-use crate::text::{line_end, numbers};
+use crate::text::numbers;
 use chunks::read_full;
 use kernel::edition::ONE_WAITS;
 use std::io;
@@ -25,41 +25,33 @@ const FIRST_ENTRY: u32 = 0;
 // As much of the input as is read.
 const MOST: usize = 65536;
 
-// Whether a line ends a case, by its first byte.
-fn is_case(what: u8) -> bool {
-    match what {
-        b'-' | b'+' | b'2' | b'0' => true,
-        _ => false,
-    }
-}
-
 // A line that ends a case has its table asked; one that begins with = makes the table the one that each case starts from; any other changes
 // the table.
 fn run(rt: &impl Print, text: &[u8]) -> io::Result<Tally> {
-    let mut tally = Tally::none();
-    let started = rules::start(ONE_WAITS, FIRST, FIRST_ENTRY);
-    let mut whole = started.table;
+    let mut tally = Tally::default();
+    let mut whole = rules::start(ONE_WAITS, FIRST, FIRST_ENTRY).table;
     let mut table = whole;
-    let mut at = 0;
-    while at < text.len() {
-        let end = line_end(text, at);
-        let what = text[at];
-        if what == b'=' {
-            write_states(rt, table)?;
-            whole = table;
-        } else if is_case(what) {
-            tally = tally.found(rt, what, &text[at..end], table)?;
-            table = whole;
-        } else {
-            table = changed(table, what, numbers(&text[at..end]));
+    for line in text.split(|byte| *byte == b'\n') {
+        let Some(&what) = line.first() else {
+            continue;
+        };
+        match what {
+            b'=' => {
+                write_states(rt, table)?;
+                whole = table;
+            }
+            b'-' | b'+' | b'2' | b'0' => {
+                tally.find(rt, what, line, table)?;
+                table = whole;
+            }
+            _ => table = changed(table, what, numbers(line)),
         }
-        at = end + 1;
     }
     Ok(tally)
 }
 
 fn main(rt: HostRuntime) -> io::Result<()> {
-    let mut text = [0u8; MOST];
+    let mut text = [0; MOST];
     let n = read_full(&mut rt.reader(), &mut text)?;
     let tally = run(&rt, &text[..n])?;
     tally.write(&rt)

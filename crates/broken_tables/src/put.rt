@@ -2,9 +2,8 @@
 // Nothing keeps the rules here: these are the hands that break them.
 use kernel::table::Table;
 use queue::Queue;
-use queue::numbering::{PLACES, QUEUES};
-use task::task::{Result, State, Task};
-use tid::sizes::SLOTS;
+use queue::numbering::PLACES;
+use task::task::{State, Task};
 use tid::slot_named;
 
 // A row whose first places hold three marks, and zeros behind them.
@@ -27,33 +26,27 @@ pub(crate) fn last_place(mark: u8) -> Queue {
 pub(crate) fn bare(state: State, parent: u8) -> Task {
     Task {
         state,
-        priority: 0,
         parent,
-        entry: 0,
-        result: Result::Nothing,
+        ..Task::UNUSED
     }
 }
 
 pub(crate) fn with_task(mut table: Table, tid: u8, task: Task) -> Table {
-    let s = slot_named(tid);
-    if s < SLOTS {
-        table.tasks[s] = task;
+    if let Some(place) = table.tasks.get_mut(slot_named(tid)) {
+        *place = task;
     }
     table
 }
 
 pub(crate) fn task_of(table: Table, tid: u8) -> Task {
-    let s = slot_named(tid);
-    if s < SLOTS {
-        return table.tasks[s];
-    }
-    table.tasks[0]
+    let tasks = table.tasks;
+    tasks.get(slot_named(tid)).copied().unwrap_or(tasks[0])
 }
 
 // A queue by its number.
 pub(crate) fn with_queue(mut table: Table, k: usize, row: Queue) -> Table {
-    if k < QUEUES {
-        table.queues[k] = row;
+    if let Some(place) = table.queues.get_mut(k) {
+        *place = row;
     }
     table
 }

@@ -9,7 +9,7 @@ use lib.Dec.{ltb, eqb}
 use borrow.Author.Tests.{eqb-true, ltb-true, ltb-false}
 use Rattle.queue.specs.Choose.{choose}
 use Rattle.queue.proofs.Below.{both_true, by_test}
-use Rattle.task.specs.declared.task.Result.TheVariants.{Nothing}
+use Rattle.task.specs.declared.task.Outcome.TheVariants.{Nothing}
 use Rattle.task.specs.Task.{first_negative}
 use Rattle.task.proofs.Tests.{clash}
 use Rattle.kernel.specs.declared.table.Table.{Table}

@@ -7,8 +7,8 @@ use native.Mathlib.Omega.{arith}
 use lib.ListN.{length}
 use Rattle.tid.specs.Sizes.{area_bytes}
 use Rattle.tid.specs.Tid.{slot_named}
-use Rattle.task.specs.declared.task.Result.{Result}
-use Rattle.task.specs.declared.task.Result.TheVariants.{Nothing, Value, Fault}
+use Rattle.task.specs.declared.task.Outcome.{Outcome}
+use Rattle.task.specs.declared.task.Outcome.TheVariants.{Nothing, Value, Fault}
 use Rattle.task.specs.Result.{result_kind, result_cut, bit}
 use Rattle.task.specs.Task.{first_negative}
 use Rattle.kernel.specs.declared.table.Table.{Table}
@@ -69,7 +69,7 @@ unfolding last_of
 last_shows none shows = shows
 last_shows (more fits each) shows = last_shows each (answer_shows _ fits)
 
-value_cut : (o : Result) (mark : Bool) → result_kind o ≡ 1 → ((from v : ℕ) (cut : Bool) → o ≡ Value from cut v → cut ≡ mark)
+value_cut : (o : Outcome) (mark : Bool) → result_kind o ≡ 1 → ((from v : ℕ) (cut : Bool) → o ≡ Value from cut v → cut ≡ mark)
     → result_cut o ≡ bit mark
 value_cut Nothing mark e told = absurd (omega arith)
 value_cut (Value from cut v) mark e told = ap bit (told from v cut refl)

@@ -10,7 +10,7 @@ use lib.Dec.{ltb}
 use borrow.Author.Tests.{eq-eqb, ne_eqb, ltb-true, ltb-false}
 use Rattle.tid.specs.Sizes.{slot_count, area_bytes}
 use Rattle.queue.proofs.Below.{by_test}
-use Rattle.task.specs.declared.task.Result.{Result}
+use Rattle.task.specs.declared.task.Outcome.{Outcome}
 use Rattle.task.specs.declared.task.State.TheVariants.{EventBlocked}
 use Rattle.task.specs.Task.{awaited, state_code}
 use Rattle.kernel.specs.declared.table.Table.{Table}
@@ -114,7 +114,7 @@ hosts_tasks_may_wait image areas request answer s below e kind there one =
     )
 
 -- what a task gets by a step it gets by the call
-step_gets : {s : ℕ} {o : Result} {d : Decision} {c : Call} → s < slot_count → c.image ≡ image_of d.table → c.answer ≡ answer_bytes d.answer
+step_gets : {s : ℕ} {o : Outcome} {d : Decision} {c : Call} → s < slot_count → c.image ≡ image_of d.table → c.answer ≡ answer_bytes d.answer
     → d.answer.verdict ≡ accepted → Sound slot_count d → View.Gets s o d → Gets s o c
 step_gets {s} {o} {d} below image answer fine sound (View.holds ready told) =
     let rules = sound.good.rules in

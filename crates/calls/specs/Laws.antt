@@ -6,7 +6,7 @@ use mathlib.Core.List.{List, [], map, Forall₂}
 use Rattle.queue.specs.Choose.{choose}
 use Rattle.tid.specs.Sizes.{slot_count, events, area_bytes}
 use Rattle.tid.specs.Tid.{slot_named, tid_of}
-use Rattle.task.specs.declared.task.Result.{Result}
+use Rattle.task.specs.declared.task.Outcome.{Outcome}
 use Rattle.task.specs.Task.{entry_of}
 use Rattle.task.specs.Result.{bit}
 use Rattle.kernel.specs.declared.table.Table.{Table}
@@ -141,7 +141,7 @@ HostsTasksMayWait =
     c.verdict ≡ accepted → r.kind ≡ await_event_kind → r.arg0 < events → byte_at image s at_state ≡ 1 → WaitsIn c.image r.arg0 s
 
 -- a task gets a result by a call: its record is ready and holds it, or the answer names the task and shows it
-pub data Gets (s : ℕ) (o : Result) (c : Call) : Type 0 where
+pub data Gets (s : ℕ) (o : Outcome) (c : Call) : Type 0 where
   holds : byte_at c.image s at_state ≡ 2 → result_of (result_parts_in (record_at record_length c.image s)) ≡ o → Gets s o c
   shown : (answer_from c.answer).next ≡ tid_of s → (answer_from c.answer).result ≡ o → Gets s o c
 

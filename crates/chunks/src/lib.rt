@@ -2,26 +2,32 @@
 // the lowest first; a chunk is a word, its length, and that many bytes.
 #![tactic(auto)]
 
-ghost use Rattle.std.specs.Prelude.{◌<◌, ◌≤◌, IfOk, length};
+ghost use Rattle.std.specs.Prelude.{◌≤◌, IfOk, length};
 
 use std::io;
 use std::io::Read;
+use thiserror::Error;
 
-// How many bytes a word has, and the largest that there is.
+// How many bytes a word has.
 const WORD: usize = 4;
-
-pub const LARGEST: usize = 4294967295;
 
 // The longest chunk.
 pub const MOST: usize = 16384;
 
-// In place of a word or a length, and above each of them: the input has ended, it ends within what is read, or the chunk is longer than the
-// longest.
-pub const ENDED: usize = LARGEST + 1;
-
-const SHORT: usize = LARGEST + 2;
-
-const LONG: usize = LARGEST + 3;
+// Why a case is not run.
+#[derive(Debug, Drop, Error)]
+pub enum CaseError {
+    #[error("the last case is cut short")]
+    CutCase,
+    #[error("the last start is cut short")]
+    CutStart,
+    #[error("a chunk is longer than {MOST} bytes")]
+    LongChunk,
+    #[error("an image is longer than {MOST} bytes")]
+    LongImage,
+    #[error(transparent)]
+    Io(#[from] io::Error),
+}
 
 // Reads until the buffer is full or the input ends, and answers how many bytes it put at the buffer's start.
 pub fn read_full<R: Read>(from: &mut R, buffer: &mut [u8]) -> io::Result<usize>
@@ -38,70 +44,58 @@ pub fn read_full<R: Read>(from: &mut R, buffer: &mut [u8]) -> io::Result<usize>
     Ok(done)
 }
 
-// A byte as a number. As a function it asks no proof that a slice's element fits.
-fn wide(x: u8) -> usize
-    ensures { result < 256 }
-{
-    x as usize
-}
-
-// None is above the largest, where it would be taken for the reason why there is none.
-fn number_of(b: &[u8; WORD]) -> usize
-    ensures { result ≤ 4294967295 }
-{
-    let low = wide(b[0]) + 256 * wide(b[1]);
-    let high = wide(b[2]) + 256 * wide(b[3]);
-    low + 65536 * high
-}
-
-// Reads a word, and answers its number, or why there is none.
-pub fn read_word<R: Read>(from: &mut R) -> io::Result<usize> {
+// Reads a word; there is none where the input has ended.
+pub fn read_word<R: Read>(from: &mut R) -> Result<Option<u32>, CaseError> {
     let mut bytes = [0u8; WORD];
-    let got = read_full(from, &mut bytes)?;
-    if got == 0 {
-        return Ok(ENDED);
+    match read_full(from, &mut bytes)? {
+        0 => Ok(None),
+        WORD => Ok(Some(u32::from_le_bytes(bytes))),
+        _ => Err(CaseError::CutCase),
     }
-    if got < WORD {
-        return Ok(SHORT);
-    }
-    Ok(number_of(&bytes))
 }
 
-// Reads a chunk into the buffer's start, and answers its length, or why there is none.
-pub fn read_chunk<R: Read>(from: &mut R, buffer: &mut [u8]) -> io::Result<usize> {
-    let n = read_word(from)?;
-    if LARGEST < n {
-        return Ok(n);
+// Reads a chunk into the buffer's start, and answers it.
+pub fn read_chunk<'a, R: Read>(
+    from: &mut R,
+    buffer: &'a mut [u8],
+) -> Result<&'a mut [u8], CaseError>
+    ensures { IfOk result (λ chunk. length chunk.now ≤ length buffer.old) }
+{
+    let n = read_word(from)?.ok_or(CaseError::CutCase)? as usize;
+    if MOST < n || buffer.len() < n {
+        return Err(CaseError::LongChunk);
     }
-    if MOST < n {
-        return Ok(LONG);
+    let chunk = &mut buffer[..n];
+    if read_full(from, chunk)? < n {
+        return Err(CaseError::CutCase);
     }
-    if buffer.len() < n {
-        return Ok(LONG);
-    }
-    let count = read_full(from, &mut buffer[..n])?;
-    Ok(if count < n { SHORT } else { n })
+    Ok(chunk)
 }
 
-// Says why a program does not run a case, by what stands in place of a word or a length.
-pub fn complain(err: &impl Print, program: &[u8], n: usize) -> io::Result<()> {
-    err.write_all(program)?;
-    if n == LONG {
-        println!(err; ": a chunk is longer than 16384 bytes")
-    } else {
-        println!(err; ": the last case is cut short")
+// Runs cases until there is no other, which `case` answers by false. Where one cannot be run it says why, and runs no more. A proved loop
+// has to end, and nothing says that the input does.
+pub fn run_cases<P: Eprint, R: Read, F: FnMut(&mut R) -> Result<bool, CaseError>>(
+    err: &P,
+    program: &str,
+    from: &mut R,
+    mut case: F,
+) -> io::Result<()>
+    requires { F.IsAlwaysCallable case }
+{
+    for _ in 0..u64::MAX {
+        match case(from) {
+            Ok(true) => {}
+            Ok(false) => break,
+            Err(CaseError::Io(e)) => return Err(e),
+            Err(why) => return eprintln!(err; "{program}: {why}"),
+        }
     }
+    Ok(())
 }
 
 // Writes a word.
 pub fn write_word(rt: &impl Print, n: usize) -> io::Result<()> {
-    let bytes = [
-        (n % 256) as u8,
-        (n / 256 % 256) as u8,
-        (n / 65536 % 256) as u8,
-        (n / 16777216 % 256) as u8,
-    ];
-    rt.write_all(&bytes)
+    rt.write_all(&n.to_le_bytes()[..WORD])
 }
 
 // Writes a chunk.

@@ -1,7 +1,9 @@
 -- Each public function's own promise leaves no choice.
-use Rattle.std.proofs.Common.{refl}
+use Rattle.std.proofs.Common.{ap, refl}
 use mathlib.Core.Path.{◌∙⁻¹◌}
-use Rattle.tid.specs.Determined.{DeterminesResult}
+use Rattle.clock.specs.Clock.{Heard}
+use Rattle.clock.specs.declared.clock.Answer.{Answer}
+use Rattle.tid.specs.Determined.{Determines, DeterminesResult}
 use Rattle.clock.proofs.clock.Clock.new.Reads as clock_clock_new
 use Rattle.clock.proofs.clock.Clock.hear.Reads as clock_clock_hear
 use Rattle.clock.proofs.message.asked_in.Reads as message_asked_in
@@ -17,8 +19,10 @@ use Rattle.clock.proofs.message.count_of.Reads as message_count_of
 clock_clock_new_determined : (κs : _) (a : _) → DeterminesResult (clock_clock_new.Post κs a)
 clock_clock_new_determined κs a r r' s s' p p' = (p ∙⁻¹ p', refl)
 
-clock_clock_hear_determined : (κs : _) (a : _) → DeterminesResult (clock_clock_hear.Post κs a)
-clock_clock_hear_determined κs a r r' s s' p p' = (p ∙⁻¹ p', refl)
+clock_clock_hear_determined : (κs : _) (a : _) → Determines (clock_clock_hear.Post κs a) (λ s. s.0.now)
+clock_clock_hear_determined κs a r r' s s' p p' =
+    let same = p ∙⁻¹ p' in
+    (ap {B = Answer} (λ (h : Heard). record { said = h.said; to = h.to }) same, ap (λ (h : Heard). h.clock) same)
 
 message_asked_in_determined : (κs : _) (a : _) → DeterminesResult (message_asked_in.Post κs a)
 message_asked_in_determined κs a r r' s s' p p' = (p ∙⁻¹ p', refl)

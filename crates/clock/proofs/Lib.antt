@@ -1,5 +1,5 @@
+pub mod Determined
 pub mod Lists
-pub mod Due
 pub mod Sorted
 mod Planned
 mod Once
@@ -8,4 +8,3 @@ mod Meanings
 mod Fits
 pub mod Laws
 pub mod Example
-mod Determined

@@ -4,14 +4,14 @@ use mathlib.Core.Bool.{false≢true}
 use native.Mathlib.Decide.{ℕ_discrete}
 use borrow.Author.Tests.{not-false}
 use Rattle.task.specs.Task.{is_negative}
-use Rattle.task.specs.declared.task.Result.{Result}
-use Rattle.task.specs.declared.task.Result.TheVariants.{Nothing, Value, Fault}
+use Rattle.task.specs.declared.task.Outcome.{Outcome}
+use Rattle.task.specs.declared.task.Outcome.TheVariants.{Nothing, Value, Fault}
 use Rattle.task.specs.Result.{negated}
 use Rattle.task.proofs.Tests.{chosen}
 use Rattle.image.specs.Bytes.{number_in}
 use Rattle.image.proofs.Bytes.{number_back}
 use Rattle.clock.specs.declared.clock.Clock.{Clock}
-use Rattle.clock.specs.declared.clock.Heard.{Heard}
+use Rattle.clock.specs.Clock.{Heard}
 use Rattle.clock.specs.declared.clock.Asked.{Asked}
 use Rattle.clock.specs.declared.clock.Asked.TheVariants.{Tick, Time, Delay, Until, Unknown}
 use Rattle.clock.specs.declared.clock.Said.TheVariants.{Count, Refused}
@@ -97,14 +97,14 @@ said_is_meant_lem q (Refused n) from cut fits may =
     ∙ rw (refusal_read (negated n) 0 n fits.0 fits.1 refl refl, may)
 
 -- what a client may read from a result and the buffer, by what it means
-abbrev Means : Asked → Result → List ℕ → Meaning → Type 0
+abbrev Means : Asked → Outcome → List ℕ → Meaning → Type 0
 Means q o bytes (Meant.Count k) = (is_answer o ≡ true) × (number_in bytes 0 4 ≡ 0) × (number_in bytes 4 4 ≡ k) × (count_fits q k ≡ true)
 Means q o bytes (Meant.Refused n) =
     (is_answer o ≡ true) × (2 ≤ n) × (n ≤ 4) × (number_in bytes 0 4 ≡ negated n) × (number_in bytes 4 4 ≡ 0) × (refusal_fits q n ≡ true)
 Means q o bytes (Meant.Fault f) = Unit {0}
 Means q o bytes Meant.Garbled = Unit {0}
 
-fitting_means : (q : Asked) (o : Result) (bytes : List ℕ) (m : Meaning) → is_answer o ≡ true
+fitting_means : (q : Asked) (o : Outcome) (bytes : List ℕ) (m : Meaning) → is_answer o ≡ true
     → ReadAs (number_in bytes 0 4) (number_in bytes 4 4) m → Means q o bytes (fitting q m)
 fitting_means q o bytes (Meant.Count k) eight r = chosen (Means q o bytes) (count_fits q k) (λ fits. (eight, r.0, r.1, fits)) (λ _. tt)
 fitting_means q o bytes (Meant.Refused n) eight r =
@@ -112,18 +112,18 @@ fitting_means q o bytes (Meant.Refused n) eight r =
 fitting_means q o bytes (Meant.Fault f) eight r = tt
 fitting_means q o bytes Meant.Garbled eight r = tt
 
-means : (q : Asked) (o : Result) (bytes : List ℕ) → Means q o bytes (meaning q o bytes)
+means : (q : Asked) (o : Outcome) (bytes : List ℕ) → Means q o bytes (meaning q o bytes)
 means q Nothing bytes = tt
 means q (Fault f) bytes = tt
 means q (Value from cut v) bytes =
-    let o : Result = Value from cut v in
+    let o : Outcome = Value from cut v in
     let status = number_in bytes 0 4 in
     let count = number_in bytes 4 4 in
     chosen (Means q o bytes) (not (eqb v size)) (λ _. tt)
     (λ eight. fitting_means q o bytes (words_mean status count) (not-false (eqb v size) eight) (read_as status count))
 
 -- what the words mean is meant where it fits
-meant_so : (q : Asked) (o : Result) (bytes : List ℕ) (m : Meaning) → is_answer o ≡ true
+meant_so : (q : Asked) (o : Outcome) (bytes : List ℕ) (m : Meaning) → is_answer o ≡ true
     → words_mean (number_in bytes 0 4) (number_in bytes 4 4) ≡ m → meaning q o bytes ≡ fitting q m
 meant_so q Nothing bytes m answer read = absurd (false≢true answer)
 meant_so q (Fault f) bytes m answer read = absurd (false≢true answer)

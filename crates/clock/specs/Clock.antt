@@ -7,8 +7,19 @@ use Rattle.clock.specs.declared.clock.Clock.{Clock}
 use Rattle.clock.specs.declared.clock.Asked.{Asked}
 use Rattle.clock.specs.declared.clock.Asked.TheVariants.{Tick, Time, Delay, Until, Unknown}
 use Rattle.clock.specs.declared.clock.Said.TheVariants.{Count, Refused}
-use Rattle.clock.specs.declared.clock.Heard.{Heard}
+use Rattle.clock.specs.declared.clock.Answer.{Answer}
+use Rattle.clock.specs.declared.clock.Said.{Said}
+use Rattle.clock.specs.declared.row.Hearers.{Hearers}
 use Rattle.clock.specs.Row.{room, picked, sleeper, asleep, row_of, hearers_of, pushed_row, holds}
+
+-- the clock after a message, who is answered and what each of them is told
+pub record Heard : Type 0 where
+  pub clock : Clock
+  pub said : Said
+  pub to : Hearers
+
+abbrev pub heard : Clock → Answer → Heard
+heard c a = record { clock = c; said = a.said; to = a.to }
 
 -- a number as a word of 32 bits, which wraps
 abbrev pub wrapped : ℕ → ℕ

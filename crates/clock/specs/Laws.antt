@@ -2,8 +2,8 @@
 -- proves it under the same name in small letters.
 use Rattle.std.specs.Prelude.{◌≡◌, ℕ, ◌+◌, ◌^◌, ◌<◌, ◌≤◌, Bool, true, false, ◌↔◌, List, [], ◌==◌}
 use Rattle.task.specs.Task.{first_negative}
-use Rattle.task.specs.declared.task.Result.{Result}
-use Rattle.task.specs.declared.task.Result.TheVariants.{Nothing, Value, Fault}
+use Rattle.task.specs.declared.task.Outcome.{Outcome}
+use Rattle.task.specs.declared.task.Outcome.TheVariants.{Nothing, Value, Fault}
 use Rattle.task.specs.Result.{negated}
 use Rattle.image.specs.Bytes.{number_in}
 use Rattle.clock.specs.declared.clock.Clock.{Clock}
@@ -52,7 +52,7 @@ abbrev pub AskedIsRead : Type 0
 AskedIsRead = (q : Asked) → argument_of q < 2 ^ 32 → asked_in size (request_bytes q) ≡ q
 
 -- whether a result is a value as long as an answer
-abbrev pub is_answer : Result → Bool
+abbrev pub is_answer : Outcome → Bool
 is_answer Nothing = false
 is_answer (Value from cut v) = v == size
 is_answer (Fault f) = false
@@ -83,7 +83,7 @@ SaidIsMeant =
 -- Ruled out: a client that takes the refusal -2 for the count 4294967294, and one that finds a count in an answer of four bytes.
 abbrev pub CountsApart : Type 0
 CountsApart =
-    (q : Asked) (o : Result) (bytes : List ℕ) (count : ℕ)
+    (q : Asked) (o : Outcome) (bytes : List ℕ) (count : ℕ)
     → (meaning q o bytes ≡ Meant.Count count)
     ↔ (is_answer o ≡ true) × (number_in bytes 0 4 ≡ 0) × (number_in bytes 4 4 ≡ count) × (count_fits q count ≡ true)
 
@@ -93,7 +93,7 @@ CountsApart =
 -- itself be refused the time.
 abbrev pub RefusalsApart : Type 0
 RefusalsApart =
-    (q : Asked) (o : Result) (bytes : List ℕ) (n : ℕ)
+    (q : Asked) (o : Outcome) (bytes : List ℕ) (n : ℕ)
     → (meaning q o bytes ≡ Meant.Refused n)
     ↔ (is_answer o ≡ true) × (2 ≤ n) × (n ≤ 4)
     × (number_in bytes 0 4 ≡ negated n) × (number_in bytes 4 4 ≡ 0) × (refusal_fits q n ≡ true)

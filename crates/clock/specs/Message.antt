@@ -1,8 +1,8 @@
 -- The bytes of a message to the clock and of its answer, two words each, the lowest byte first; and what a client makes of an answer.
 use Rattle.std.specs.Prelude.{ℕ, Bool, true, false, not, ◌||◌, List, ◌++◌, ◌==◌, nat_lt}
 use Rattle.queue.specs.Choose.{choose}
-use Rattle.task.specs.declared.task.Result.{Result}
-use Rattle.task.specs.declared.task.Result.TheVariants as Told
+use Rattle.task.specs.declared.task.Outcome.{Outcome}
+use Rattle.task.specs.declared.task.Outcome.TheVariants as Told
 use Rattle.task.specs.Task.{first_negative, is_negative}
 use Rattle.task.specs.Result.{negated}
 use Rattle.image.specs.Bytes.{bytes_of, number_in}
@@ -107,7 +107,7 @@ fitting q Meant.Garbled = Meant.Garbled
 
 -- What came of a Send to the clock that asked q, by what the kernel tells the sender and its reply buffer: a fault is the kernel's own; a
 -- value is the length of the answer, and an answer of another length is garbled.
-abbrev pub meaning : Asked → Result → List ℕ → Meaning
+abbrev pub meaning : Asked → Outcome → List ℕ → Meaning
 meaning q Told.Nothing bytes = Meant.Garbled
 meaning q (Told.Fault f) bytes = Meant.Fault f
 meaning q (Told.Value from cut v) bytes =

@@ -8,7 +8,7 @@ use Rattle.clock.specs.declared.clock.Asked.{Asked}
 use Rattle.clock.specs.declared.clock.Asked.TheVariants.{Tick, Time, Delay, Until, Unknown}
 use Rattle.clock.specs.declared.clock.Said.{Said}
 use Rattle.clock.specs.declared.clock.Said.TheVariants.{Count, Refused}
-use Rattle.clock.specs.declared.clock.Heard.{Heard}
+use Rattle.clock.specs.Clock.{Heard}
 use Rattle.clock.specs.Row.{room, picked, some, answered_tids}
 use Rattle.clock.specs.Clock.{wrapped, is_due, hear}
 

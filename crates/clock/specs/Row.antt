@@ -1,5 +1,6 @@
 -- Rows of a fixed number of places that fill from the front, and the lists that they stand for: who sleeps, and who is to be answered.
-use Rattle.std.specs.Prelude.{ℕ, ◌+◌, ◌-◌, Bool, false, ◌||◌, eqb, List, [], ◌∷◌, ◌++◌, length, take, set, replicate, nat_lt}
+use Rattle.std.specs.Prelude.{ℕ, ◌+◌, ◌-◌, Bool, eqb, List, [], ◌∷◌, ◌++◌, length, take, set, replicate, nat_lt}
+use Rattle.std.specs.List.{list_any}
 use Rattle.queue.specs.Choose.{choose}
 use Rattle.clock.specs.declared.row.Sleeper.{Sleeper}
 use Rattle.clock.specs.declared.row.Row.{Row}
@@ -23,9 +24,8 @@ picked p [] = []
 picked p (x ∷ xs) = choose (p x) (x ∷ picked p xs) (picked p xs)
 
 -- whether any of a list passes a test
-unfoldable pub some {ℓ} : {A : Type ℓ} → (A → Bool) → List A → Bool
-some p [] = false
-some p (x ∷ xs) = p x || some p xs
+abbrev pub some : {A : Type 0} → (A → Bool) → List A → Bool
+some p xs = list_any p xs
 
 -- who sleeps, and the count at which it is due
 abbrev pub sleeper : ℕ → ℕ → Sleeper

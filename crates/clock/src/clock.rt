@@ -1,10 +1,11 @@
 // The clock: what it keeps, and what it makes of a message.
-ghost use Rattle.std.specs.Prelude.{◌≡◌};
+ghost use Rattle.std.specs.Prelude.{◌≡◌, [], ◌∷◌};
 ghost use Rattle.clock.specs.Clock as Spec;
-ghost use Rattle.clock.specs.Clock.{is_due, new_clock, counted, refusal, waits, ticked};
+ghost use Rattle.clock.specs.Clock.{heard, is_due, new_clock, counted, refusal, waits, ticked};
+ghost use Rattle.clock.specs.Row.{hearers_of};
+ghost use Rattle.clock.specs.declared.clock.Said.TheVariants.{Refused};
 
 use crate::row::{Hearers, ROOM, Row, Sleeper};
-use std::num::{wrapping_add_u32, wrapping_sub_u32};
 use task::task::FIRST_NEGATIVE;
 
 #[derive(Clone, Copy, Drop)]
@@ -33,19 +34,19 @@ pub enum Said {
     Refused(u8),
 }
 
-// The clock after a message, who is answered and what each of them is told.
+// Who is answered, and what each of them is told.
 #[derive(Clone, Copy, Drop)]
-pub struct Heard {
-    pub clock: Clock,
+pub struct Answer {
     pub said: Said,
     pub to: Hearers,
 }
 
 // Whether the count has come to the due time: the difference, wrapped, is not negative.
+#[tactic(auto, unfolding(crate::specs::Clock::is_due))]
 pub(crate) fn is_due(count: u32, due: u32) -> bool
     ensures { result ≡ is_due count due }
 {
-    wrapping_sub_u32(count, due) < FIRST_NEGATIVE
+    count.wrapping_sub(due) < FIRST_NEGATIVE
 }
 
 impl Clock {
@@ -62,114 +63,78 @@ impl Clock {
 
     // What a message does, and who is answered.
     #[tactic(auto, unfolding(crate::specs::Clock::hear))]
-    pub fn hear(self, from: u32, asked: Asked) -> Heard
-        ensures { result ≡ Spec.hear self from asked }
+    pub fn hear(&mut self, from: u32, asked: Asked) -> Answer
+        ensures { heard self.new result ≡ Spec.hear self.old from asked }
     {
         match asked {
-            Asked::Tick => {
-                if from == self.notifier {
-                    self.ticked()
-                } else {
-                    self.refused(from, 4)
-                }
-            }
             Asked::Time => self.counted(from),
-            Asked::Delay(d) => {
-                let row = self.row;
-                if row.holds(from) {
-                    return self.refused(from, 4);
-                }
-                if FIRST_NEGATIVE <= d {
-                    return self.refused(from, 2);
-                }
-                let count = self.count;
-                self.waits(from, wrapping_add_u32(count, d))
-            }
-            Asked::Until(due) => {
-                let row = self.row;
-                if row.holds(from) {
-                    return self.refused(from, 4);
-                }
-                self.waits(from, due)
-            }
-            Asked::Unknown => self.refused(from, 4),
+            Asked::Tick if from == self.notifier => self.ticked(),
+            Asked::Delay(_) | Asked::Until(_) if self.row.holds(from) => refused(from, 4),
+            Asked::Delay(d) if FIRST_NEGATIVE <= d => refused(from, 2),
+            Asked::Delay(d) => self.waits(from, self.count.wrapping_add(d)),
+            Asked::Until(due) => self.waits(from, due),
+            Asked::Tick | Asked::Unknown => refused(from, 4),
         }
     }
 
     // The sender is told the count.
-    fn counted(self, from: u32) -> Heard
-        ensures { result ≡ counted self from }
+    fn counted(&self, from: u32) -> Answer
+        ensures { heard self.now result ≡ counted self.now from }
     {
-        let count = self.count;
-        Heard {
-            clock: self,
-            said: Said::Count(count),
-            to: Hearers::one(from),
-        }
-    }
-
-    // The sender is refused.
-    fn refused(self, from: u32, n: u8) -> Heard
-        ensures { result ≡ refusal self from n }
-    {
-        Heard {
-            clock: self,
-            said: Said::Refused(n),
+        Answer {
+            said: Said::Count(self.count),
             to: Hearers::one(from),
         }
     }
 
     // The sender is answered at once if it is due, and else sleeps, if a place is free.
-    fn waits(self, from: u32, due: u32) -> Heard
-        ensures { result ≡ waits self from due }
+    #[tactic(auto, unfolding(crate::specs::Clock::waits, crate::specs::Clock::sleeps))]
+    fn waits(&mut self, from: u32, due: u32) -> Answer
+        ensures { heard self.new result ≡ waits self.old from due }
     {
-        let count = self.count;
-        let notifier = self.notifier;
-        let row = self.row;
-        if is_due(count, due) {
+        if is_due(self.count, due) {
             return self.counted(from);
         }
-        if ROOM <= row.len {
-            return self.refused(from, 3);
+        if ROOM <= self.row.len {
+            return refused(from, 3);
         }
-        Heard {
-            clock: Clock {
-                notifier,
-                count,
-                row: row.pushed(Sleeper { tid: from, due }),
-            },
-            said: Said::Count(count),
+        self.row.push(Sleeper { tid: from, due });
+        Answer {
+            said: Said::Count(self.count),
             to: Hearers::none(),
         }
     }
 
     // One tick: the notifier is answered, then those who are due, in order of arrival. The others sleep on.
-    fn ticked(self) -> Heard
-        ensures { result ≡ ticked self }
+    fn ticked(&mut self) -> Answer
+        ensures { heard self.new result ≡ ticked self.old }
     {
-        let notifier = self.notifier;
-        let old = self.row;
-        let places = old.places;
-        let len = old.len;
-        let count = wrapping_add_u32(self.count, 1);
+        let count = self.count.wrapping_add(1);
         let mut row = Row::empty();
-        let mut to = Hearers::one(notifier);
-        let mut i = 0;
-        while i < len && i < ROOM {
-            let x = places[i];
-            let due = is_due(count, x.due);
-            to = to.pushed_if(x.tid, due);
-            row = row.pushed_if(x, !due);
-            i += 1;
+        let mut to = Hearers::one(self.notifier);
+        for x in self.row.asleep() {
+            if is_due(count, x.due) {
+                to.push(x.tid);
+            } else {
+                row.push(*x);
+            }
         }
-        Heard {
-            clock: Clock {
-                notifier,
-                count,
-                row,
-            },
+        self.count = count;
+        self.row = row;
+        Answer {
             said: Said::Count(count),
             to,
         }
+    }
+}
+
+// The sender is refused.
+fn refused(from: u32, n: u8) -> Answer
+    ensures said { result.said ≡ Refused n }
+    ensures to { result.to ≡ hearers_of (from ∷ []) }
+{
+    Answer {
+        said: Said::Refused(n),
+        to: Hearers::one(from),
     }
 }

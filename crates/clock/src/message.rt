@@ -4,8 +4,7 @@ ghost use Rattle.clock.specs.Message.{asked_in, asked_by, op_of, argument_of, re
 
 use crate::clock::{Asked, Said, is_due};
 use server::words::{byte_of, word_at};
-use std::num::wrapping_sub_u32;
-use task::task::{FIRST_NEGATIVE, Result};
+use task::task::{FIRST_NEGATIVE, Outcome};
 
 // How long a message is, and how long an answer.
 pub const SIZE: u32 = 8;
@@ -17,6 +16,13 @@ const TIME: u32 = 2;
 const DELAY: u32 = 3;
 
 const UNTIL: u32 = 4;
+
+// The refusals, as the negative words that tell them.
+pub const MINUS_2: u32 = 4294967294;
+
+pub const MINUS_3: u32 = 4294967293;
+
+pub const MINUS_4: u32 = 4294967292;
 
 // What a message of a length asks, of which at least the first bytes are at hand.
 #[tactic(auto, unfolding(crate::specs::Message::asked_in))]
@@ -34,22 +40,13 @@ pub fn asked_in(length: u32, bytes: &[u8]) -> Asked
 pub fn asked_by(op: u32, arg: u32) -> Asked
     ensures { result ≡ asked_by op arg }
 {
-    if op == DELAY {
-        return Asked::Delay(arg);
+    match (op, arg) {
+        (DELAY, _) => Asked::Delay(arg),
+        (UNTIL, _) => Asked::Until(arg),
+        (TICK, 0) => Asked::Tick,
+        (TIME, 0) => Asked::Time,
+        _ => Asked::Unknown,
     }
-    if op == UNTIL {
-        return Asked::Until(arg);
-    }
-    if arg != 0 {
-        return Asked::Unknown;
-    }
-    if op == TICK {
-        return Asked::Tick;
-    }
-    if op == TIME {
-        return Asked::Time;
-    }
-    Asked::Unknown
 }
 
 // The op of a message that asks this.
@@ -70,11 +67,9 @@ pub fn argument_of(asked: Asked) -> u32
     ensures { result ≡ argument_of asked }
 {
     match asked {
-        Asked::Tick => 0,
-        Asked::Time => 0,
         Asked::Delay(d) => d,
-        Asked::Until(u) => u,
-        Asked::Unknown => 0,
+        Asked::Until(due) => due,
+        Asked::Tick | Asked::Time | Asked::Unknown => 0,
     }
 }
 
@@ -94,7 +89,7 @@ pub fn status_of(said: Said) -> u32
 {
     match said {
         Said::Count(_) => 0,
-        Said::Refused(n) => wrapping_sub_u32(0, n as u32),
+        Said::Refused(n) => u32::from(n).wrapping_neg(),
     }
 }
 
@@ -128,22 +123,15 @@ pub enum Meaning {
 }
 
 // What came of a Send to the clock that asked this: what the kernel tells, and the reply buffer.
-pub fn meant(asked: Asked, res: Result, bytes: &[u8]) -> Meaning
+pub fn meant(asked: Asked, res: Outcome, bytes: &[u8]) -> Meaning
     ensures { result ≡ meaning asked res bytes.now }
 {
     match res {
-        Result::Nothing => Meaning::Garbled,
-        Result::Fault(f) => Meaning::Fault(f),
-        Result::Value {
-            from: _,
-            cut: _,
-            value,
-        } => {
-            if value != SIZE {
-                return Meaning::Garbled;
-            }
+        Outcome::Value { value: SIZE, .. } => {
             fitting(asked, words_mean(word_at(bytes, 0), word_at(bytes, 4)))
         }
+        Outcome::Fault(f) => Meaning::Fault(f),
+        Outcome::Nothing | Outcome::Value { .. } => Meaning::Garbled,
     }
 }
 
@@ -152,8 +140,7 @@ fn count_fits(asked: Asked, count: u32) -> bool
     ensures { result ≡ count_fits asked count }
 {
     match asked {
-        Asked::Tick => true,
-        Asked::Time => true,
+        Asked::Tick | Asked::Time => true,
         Asked::Delay(d) => d < FIRST_NEGATIVE,
         Asked::Until(due) => is_due(count, due),
         Asked::Unknown => false,
@@ -165,11 +152,10 @@ fn refusal_fits(asked: Asked, n: u8) -> bool
     ensures { result ≡ refusal_fits asked n }
 {
     match asked {
-        Asked::Tick => n == 4,
+        Asked::Tick | Asked::Unknown => n == 4,
         Asked::Time => false,
         Asked::Delay(d) => n == delay_refusal(d) || n == 4,
         Asked::Until(_) => n == 3 || n == 4,
-        Asked::Unknown => n == 4,
     }
 }
 
@@ -177,10 +163,11 @@ fn refusal_fits(asked: Asked, n: u8) -> bool
 fn delay_refusal(d: u32) -> u8
     ensures { result ≡ delay_refusal d }
 {
-    if FIRST_NEGATIVE <= d {
-        return 2;
+    match d {
+        0 => 4,
+        1..FIRST_NEGATIVE => 3,
+        _ => 2,
     }
-    if d == 0 { 4 } else { 3 }
 }
 
 // What the words of an answer mean to the one who asked this: what the clock never answers to it is garbled.
@@ -188,22 +175,9 @@ fn fitting(asked: Asked, meaning: Meaning) -> Meaning
     ensures { result ≡ fitting asked meaning }
 {
     match meaning {
-        Meaning::Count(count) => {
-            if count_fits(asked, count) {
-                meaning
-            } else {
-                Meaning::Garbled
-            }
-        }
-        Meaning::Refused(n) => {
-            if refusal_fits(asked, n) {
-                meaning
-            } else {
-                Meaning::Garbled
-            }
-        }
-        Meaning::Fault(_) => meaning,
-        Meaning::Garbled => meaning,
+        Meaning::Count(count) if !count_fits(asked, count) => Meaning::Garbled,
+        Meaning::Refused(n) if !refusal_fits(asked, n) => Meaning::Garbled,
+        _ => meaning,
     }
 }
 
@@ -212,20 +186,11 @@ fn fitting(asked: Asked, meaning: Meaning) -> Meaning
 fn words_mean(status: u32, count: u32) -> Meaning
     ensures { result ≡ words_mean status count }
 {
-    if status == 0 {
-        return Meaning::Count(count);
+    match (status, count) {
+        (0, _) => Meaning::Count(count),
+        (MINUS_2, 0) => Meaning::Refused(2),
+        (MINUS_3, 0) => Meaning::Refused(3),
+        (MINUS_4, 0) => Meaning::Refused(4),
+        _ => Meaning::Garbled,
     }
-    if count != 0 {
-        return Meaning::Garbled;
-    }
-    if status == 4294967294 {
-        return Meaning::Refused(2);
-    }
-    if status == 4294967293 {
-        return Meaning::Refused(3);
-    }
-    if status == 4294967292 {
-        return Meaning::Refused(4);
-    }
-    Meaning::Garbled
 }

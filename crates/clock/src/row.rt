@@ -1,7 +1,7 @@
 // Rows that fill from the front: who sleeps, and who is to be answered.
-ghost use Rattle.std.specs.Prelude.{◌≡◌, [], ◌∷◌};
-ghost use Rattle.queue.specs.Choose.{choose};
-ghost use Rattle.clock.specs.Row.{row_of, hearers_of, pushed_row, pushed_hearers, holds};
+ghost use Rattle.std.specs.Prelude.{◌≡◌, [], ◌∷◌, ◌==◌, take};
+ghost use Rattle.std.specs.List.{list_any};
+ghost use Rattle.clock.specs.Row.{asleep, row_of, hearers_of, pushed_row, pushed_hearers, holds};
 
 // As many as may sleep at one time.
 pub const ROOM: usize = 16;
@@ -42,36 +42,29 @@ impl Row {
 
     // A sleeper comes last; a full row stays as it is.
     #[tactic(auto, unfolding(crate::specs::Row::pushed_row))]
-    pub(crate) fn pushed(mut self, x: Sleeper) -> Self
-        ensures { result ≡ pushed_row self x }
+    pub(crate) fn push(&mut self, x: Sleeper)
+        ensures { self.new ≡ pushed_row self.old x }
     {
-        let at = self.len;
-        if at < ROOM {
-            self.places[at] = x;
-            self.len = at + 1;
+        if self.len < ROOM {
+            self.places[self.len] = x;
+            self.len += 1;
         }
-        self
     }
 
-    // The same where a test passed; else the row stays as it is.
-    pub(crate) fn pushed_if(self, x: Sleeper, passed: bool) -> Self
-        ensures { result ≡ choose passed (pushed_row self x) self }
+    // Those who sleep, in order of arrival.
+    pub(crate) fn asleep(&self) -> &[Sleeper]
+        ensures { result.now ≡ asleep self.now }
     {
-        if passed { self.pushed(x) } else { self }
+        &self.places[..self.len.min(ROOM)]
     }
 
     // Whether a tid sleeps.
-    pub(crate) fn holds(self, tid: u32) -> bool
-        ensures { result ≡ holds self tid }
+    pub(crate) fn holds(&self, tid: u32) -> bool
+        ensures { result ≡ holds self.now tid }
     {
-        let places = self.places;
-        let len = self.len;
         let mut found = false;
-        let mut i = 0;
-        while i < len && i < ROOM {
-            let x = places[i];
+        for x in self.asleep() {
             found |= x.tid == tid;
-            i += 1;
         }
         found
     }
@@ -98,20 +91,12 @@ impl Hearers {
 
     // A tid comes last; where all places are taken, nothing changes.
     #[tactic(auto, unfolding(crate::specs::Row::pushed_hearers))]
-    pub(crate) fn pushed(mut self, tid: u32) -> Self
-        ensures { result ≡ pushed_hearers self tid }
+    pub(crate) fn push(&mut self, tid: u32)
+        ensures { self.new ≡ pushed_hearers self.old tid }
     {
-        let at = self.len;
-        if at < HEARERS {
-            self.tids[at] = tid;
-            self.len = at + 1;
+        if self.len < HEARERS {
+            self.tids[self.len] = tid;
+            self.len += 1;
         }
-        self
-    }
-
-    pub(crate) fn pushed_if(self, tid: u32, passed: bool) -> Self
-        ensures { result ≡ choose passed (pushed_hearers self tid) self }
-    {
-        if passed { self.pushed(tid) } else { self }
     }
 }

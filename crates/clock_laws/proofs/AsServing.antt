@@ -9,8 +9,8 @@ use lib.Dec.{ltb, eqb}
 use borrow.Author.Tests.{eqb-true, eq-eqb, ltb-true}
 use Rattle.queue.specs.Choose.{choose}
 use Rattle.queue.proofs.Below.{by_test, same_test}
-use Rattle.task.specs.declared.task.Result.{Result}
-use Rattle.task.specs.declared.task.Result.TheVariants.{Nothing, Value, Fault}
+use Rattle.task.specs.declared.task.Outcome.{Outcome}
+use Rattle.task.specs.declared.task.Outcome.TheVariants.{Nothing, Value, Fault}
 use Rattle.task.proofs.Tests.{chosen}
 use Rattle.kernel.specs.declared.table.Request.{Request}
 use Rattle.kernel.specs.Numbers.{reply_kind}
@@ -84,7 +84,7 @@ module _ (s : Server) (sound : Sound s) where
         phase = choose b (Replying 0) (Writing 0);
       }) (same_none h.to fine.to)
 
-  told_so : (o : Result) (area : List ℕ) → as_serving (told s o area) ≡ Service.told clock_service (as_serving s) o area
+  told_so : (o : Outcome) (area : List ℕ) → as_serving (told s o area) ≡ Service.told clock_service (as_serving s) o area
   told_so Nothing area = refl
   told_so (Value from cut v) area = go s.phase
     where

@@ -7,8 +7,8 @@ use lib.ListN.{get_or}
 use lib.Dec.{ltb}
 use borrow.Author.Tests.{ltb-true, ltb-false}
 use Rattle.queue.proofs.Below.{by_test}
-use Rattle.task.specs.declared.task.Result.{Result}
-use Rattle.task.specs.declared.task.Result.TheVariants.{Nothing, Value, Fault}
+use Rattle.task.specs.declared.task.Outcome.{Outcome}
+use Rattle.task.specs.declared.task.Outcome.TheVariants.{Nothing, Value, Fault}
 use Rattle.kernel.specs.declared.table.Request.{Request}
 use Rattle.kernel.specs.Numbers.{own_write_kind}
 use Rattle.clock.specs.declared.clock.Asked as Question
@@ -74,12 +74,12 @@ module _ (clock offset : ℕ) (q : Question.Asked) where
   abbrev Goes : Stage → Client → Type 0
   Goes p s = C s × (written_in s.stage ≤ written_in p)
 
-  answered_goes : (s : Client) (o : Result) (area : List ℕ) → C s → s.stage ≡ Sent → Goes Sent (answered_in s o area)
+  answered_goes : (s : Client) (o : Outcome) (area : List ℕ) → C s → s.stage ≡ Sent → Goes Sent (answered_in s o area)
   answered_goes s Nothing area calls e = (calls, rw e (omega arith))
   answered_goes s (Value from cut v) area calls e = (record { to = calls.to; question = calls.question; at = calls.at; low = tt }, omega arith)
   answered_goes s (Fault f) area calls e = (record { to = calls.to; question = calls.question; at = calls.at; low = tt }, omega arith)
 
-  told_goes : (s : Client) (o : Result) (area : List ℕ) → C s → (p : Stage) → s.stage ≡ p → Goes p (told_in p s o area)
+  told_goes : (s : Client) (o : Outcome) (area : List ℕ) → C s → (p : Stage) → s.stage ≡ p → Goes p (told_in p s o area)
   told_goes s o area calls (Writing k) e = (calls, rw e (omega arith))
   told_goes s o area calls Sending e = (calls, rw e (omega arith))
   told_goes s o area calls Sent e = answered_goes s o area calls e

@@ -5,7 +5,7 @@ use mathlib.Core.Bool.{true, false}
 use mathlib.Core.List.{List}
 use Rattle.tid.specs.Tid.{slot_named}
 use Rattle.task.specs.declared.task.Buffer.{Buffer}
-use Rattle.task.specs.declared.task.Result.TheVariants.{Value}
+use Rattle.task.specs.declared.task.Outcome.TheVariants.{Value}
 use Rattle.task.specs.declared.task.State.TheVariants.{ReplyBlocked}
 use Rattle.kernel.specs.declared.table.Request.{Request}
 use Rattle.kernel.specs.Numbers.{reply_kind}

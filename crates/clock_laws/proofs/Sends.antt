@@ -14,7 +14,7 @@ use Rattle.queue.proofs.Below.{by_test, both_true}
 use Rattle.tid.specs.Sizes.{area_bytes}
 use Rattle.tid.specs.Tid.{slot_named}
 use Rattle.tid.proofs.Trips.{tid_named}
-use Rattle.task.specs.declared.task.Result.{Result}
+use Rattle.task.specs.declared.task.Outcome.{Outcome}
 use Rattle.task.specs.declared.task.Task.{Task}
 use Rattle.task.proofs.Tests.{chosen}
 use Rattle.kernel.specs.declared.table.Table.{Table}
@@ -52,7 +52,7 @@ pub record Writes {S : Type 0} (m : Machine S) (to : S → ℕ) (offset : ℕ) (
   pub most : (s : S) → Kept s → written s ≤ size
   pub asks : (s : S) → Kept s → Asks (to s) offset message (written s) (m.request s) (written (m.asked s))
   pub asked : (s : S) → Kept s → Kept (m.asked s)
-  pub told : (s : S) (o : Result) (area : List ℕ) → Kept s → Kept (m.told s o area) × (written (m.told s o area) ≤ written s)
+  pub told : (s : S) (o : Outcome) (area : List ℕ) → Kept s → Kept (m.told s o area) × (written (m.told s o area) ≤ written s)
 
 -- its task lends nothing of the message, and what it has written stands in its area
 pub record Holds {S : Type 0} (offset : ℕ) (message : List ℕ) (Kept : S → Type 0) (written : S → ℕ) (n g : ℕ) (w : World S) : Type 0 where

@@ -7,14 +7,14 @@ use native.Mathlib.Omega.{arith}
 use lib.ListN.{length, length-take, length-set, length-map}
 use lib.Dec.{ltb, leb, eqb}
 use Rattle.task.specs.Task.{is_negative}
-use Rattle.task.specs.declared.task.Result.{Result}
-use Rattle.task.specs.declared.task.Result.TheVariants.{Nothing, Value, Fault}
+use Rattle.task.specs.declared.task.Outcome.{Outcome}
+use Rattle.task.specs.declared.task.Outcome.TheVariants.{Nothing, Value, Fault}
 use Rattle.task.proofs.Tests.{chosen}
 use Rattle.clock.specs.declared.row.Row.{Row}
 use Rattle.clock.specs.declared.clock.Clock.{Clock}
 use Rattle.clock.specs.declared.clock.Asked.{Asked}
 use Rattle.clock.specs.declared.clock.Asked.TheVariants.{Tick, Time, Delay, Until, Unknown}
-use Rattle.clock.specs.declared.clock.Heard.{Heard}
+use Rattle.clock.specs.Clock.{Heard}
 use Rattle.clock.specs.Row.{room, hearers, asleep, sleeper, pushed_row, holds}
 use Rattle.clock.specs.Clock.{wrapped, is_due, new_clock, due_at, not_due_at, sleeps, waits, ticked, hear}
 use Rattle.clock.specs.Message.{asked_in}
@@ -106,7 +106,7 @@ heard_sound s from v area old =
     let fine = hear_fine s.clock old.clock from q in
     record { clock = fine.whole; to = fine.to; said = says_proper s.clock from q old.clock.count }
 
-pub told_sound : (s : Server) (o : Result) (area : List ℕ) → Sound s → Sound (told s o area)
+pub told_sound : (s : Server) (o : Outcome) (area : List ℕ) → Sound s → Sound (told s o area)
 told_sound s Nothing area old = old
 told_sound s (Value from cut v) area old = go s.phase
   where

@@ -7,8 +7,8 @@ use lib.ListN.{get_or}
 use lib.Dec.{ltb, eqb}
 use borrow.Author.Tests.{ltb-true, ltb-false}
 use Rattle.queue.proofs.Below.{by_test}
-use Rattle.task.specs.declared.task.Result.{Result}
-use Rattle.task.specs.declared.task.Result.TheVariants.{Nothing, Value, Fault}
+use Rattle.task.specs.declared.task.Outcome.{Outcome}
+use Rattle.task.specs.declared.task.Outcome.TheVariants.{Nothing, Value, Fault}
 use Rattle.task.proofs.Tests.{chosen}
 use Rattle.kernel.specs.declared.table.Request.{Request}
 use Rattle.kernel.specs.Numbers.{own_write_kind}
@@ -100,7 +100,7 @@ fails_goes s f Waiting e low =
 fails_goes s f Sending e low = stays s Sending e low
 fails_goes s f Sent e low = (tt, omega arith)
 
-told_goes : (s : Notifier) (o : Result) → Low s.duty → Goes s.duty (told s o)
+told_goes : (s : Notifier) (o : Outcome) → Low s.duty → Goes s.duty (told s o)
 told_goes s Nothing low = (low, omega arith)
 told_goes s (Value from cut v) low = hears_goes s v s.duty refl low
 told_goes s (Fault f) low = fails_goes s f s.duty refl low

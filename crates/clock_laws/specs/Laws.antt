@@ -4,7 +4,7 @@ use Rattle.std.specs.Prelude.{ℕ, ◌≤◌, ◌<◌, ◌≡◌, ◌⊎◌, tru
 use mathlib.Core.List.{List, [], ◌++◌, map, flatten}
 use Rattle.tid.specs.Tid.{slot_named}
 use Rattle.task.specs.declared.task.Buffer.{Buffer}
-use Rattle.task.specs.declared.task.Result.TheVariants.{Nothing, Value}
+use Rattle.task.specs.declared.task.Outcome.TheVariants.{Nothing, Value}
 use Rattle.task.specs.declared.task.State.TheVariants.{Active, Ready, ReplyBlocked}
 use Rattle.kernel.specs.declared.table.Request.{Request}
 use Rattle.kernel.specs.Numbers.{send_kind, reply_kind}

@@ -3,8 +3,8 @@ use Rattle.std.proofs.Common.{◌≡◌, ℕ, ◌+◌, ◌<◌, ◌≤◌, min, 
 use mathlib.Core.Bool.{false≢true}
 use Rattle.queue.specs.Choose.{choose}
 use Rattle.queue.proofs.Below.{true_both}
-use Rattle.task.specs.declared.task.Result.{Result}
-use Rattle.task.specs.declared.task.Result.TheVariants as Told
+use Rattle.task.specs.declared.task.Outcome.{Outcome}
+use Rattle.task.specs.declared.task.Outcome.TheVariants as Told
 use Rattle.task.specs.Result.{negated}
 use Rattle.task.proofs.Tests.{chosen}
 use Rattle.kernel.specs.Numbers.{accepted, none_active}
@@ -202,7 +202,7 @@ fitting_sound q (Refused n) h = chosen Sound (refusal_fits q n) (λ _. h) (λ _.
 fitting_sound q (Fault f) h = h
 fitting_sound q Garbled h = tt
 
-meaning_sound : (q : Asked) (o : Result) (bytes : List ℕ) → Kept.Told o → ((i : ℕ) → get_or bytes i 0 < 256) → Sound (meaning q o bytes)
+meaning_sound : (q : Asked) (o : Outcome) (bytes : List ℕ) → Kept.Told o → ((i : ℕ) → get_or bytes i 0 < 256) → Sound (meaning q o bytes)
 meaning_sound q Told.Nothing bytes t b = tt
 meaning_sound q (Told.Fault f) bytes t b = t
 meaning_sound q (Told.Value from cut v) bytes t b =
@@ -211,7 +211,7 @@ meaning_sound q (Told.Value from cut v) bytes t b =
     chosen Sound (not (eqb v size)) (λ _. tt)
     (λ _. fitting_sound q (words_mean status count) (words_sound status count (number_small 4 4 bytes b)))
 
-ended_rule : {s : Client} → Rule s → (o : Result) (area : List ℕ) → Kept.Told o → Every (λ x. x < 256) area → Rule (Spec.ended s o area)
+ended_rule : {s : Client} → Rule s → (o : Outcome) (area : List ℕ) → Kept.Told o → Every (λ x. x < 256) area → Rule (Spec.ended s o area)
 ended_rule {s} h o area t found =
     let behind = s.offset + size in
     record {
@@ -223,12 +223,12 @@ ended_rule {s} h o area t found =
       came = meaning_sound s.asked o (drop behind area) t (λ i. rw get_or-drop (byte_at found (behind + i)));
     }
 
-answered_rule : {s : Client} → Rule s → (o : Result) (area : List ℕ) → Kept.Told o → Every (λ x. x < 256) area → Rule (Spec.answered_in s o area)
+answered_rule : {s : Client} → Rule s → (o : Outcome) (area : List ℕ) → Kept.Told o → Every (λ x. x < 256) area → Rule (Spec.answered_in s o area)
 answered_rule h Told.Nothing area t found = h
 answered_rule h (Told.Value from cut v) area t found = ended_rule h (Told.Value from cut v) area t found
 answered_rule h (Told.Fault f) area t found = ended_rule h (Told.Fault f) area t found
 
-told_rule : {s : Client} → Rule s → (stage : Stage) (o : Result) (area : List ℕ) → Kept.Told o → Every (λ x. x < 256) area
+told_rule : {s : Client} → Rule s → (stage : Stage) (o : Outcome) (area : List ℕ) → Kept.Told o → Every (λ x. x < 256) area
     → Rule (Spec.told_in stage s o area)
 told_rule h (Writing k) o area t found = h
 told_rule h Sending o area t found = h

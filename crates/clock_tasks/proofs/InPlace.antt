@@ -1,12 +1,14 @@
 -- Whether words are those of a clock's task, asked of each part where it stands.
-use Rattle.std.proofs.Common.{◌≡◌, ℕ, zero, suc, ◌+◌, ◌-◌, ◌*◌, ◌<◌, ◌≤◌, min, Bool, false, ◌&&◌, eqb, leb, List, [], ◌∷◌, ◌++◌, map, length, get_or, replicate, sym, refl, ap, ◌∙◌, ap₂, arith, eq-eqb, ne_eqb, le-leb}
+use Rattle.std.proofs.Common.{◌≡◌, ℕ, zero, suc, ◌+◌, ◌-◌, ◌*◌, ◌<◌, ◌≤◌, min, Bool, ◌&&◌, eqb, leb, List, [], ◌∷◌, ◌++◌, map, length, get_or, replicate, sym, refl, ap, ◌∙◌, ap₂, add-one, arith, eq-eqb, ne_eqb, le-leb}
 use mathlib.Core.Bool.{and_assoc, and-true}
 use mathlib.Core.List.{flatten, map-append}
 use native.Mathlib.Decide.{dec_lt}
 use borrow.Author.Tests.{lt-leb}
+use Rattle.std.specs.List.{list_all, range_with_len}
 use Rattle.step.specs.Every.{numbers}
 use Rattle.image.specs.Bytes.{number_in, same}
 use Rattle.image.proofs.Bytes.{same_refl}
+use Rattle.image.proofs.Made.{zero_eqb}
 use Rattle.tid.specs.Sizes.{priorities}
 use Rattle.server.specs.Phase.{place}
 use Rattle.clock.specs.declared.row.Sleeper.{Sleeper}
@@ -55,7 +57,12 @@ module _ (f : ℕ → ℕ) where
 
   -- whether they are all 0
   abbrev pub zeros : ℕ → ℕ → Bool
-  zeros k n = same (replicate n 0) (part k n)
+  zeros k n = list_all (λ i. eqb (f i) 0) (range_with_len k n)
+
+  same_zeros : (k n : ℕ) → same (replicate n 0) (part k n) ≡ zeros k n
+  unfolding numbers same
+  same_zeros k zero = refl
+  same_zeros k (suc n) = ap₂ ◌&&◌ (zero_eqb (f k)) (same_zeros (suc k) n ∙ ap (λ (j : ℕ). zeros j n) (sym (add-one k)))
 
   pub part_at : (k n i : ℕ) → i < n → get_or (part k n) i 0 ≡ f (k + i)
   unfolding numbers
@@ -71,20 +78,7 @@ module _ (f : ℕ → ℕ) where
   zeros_past k m n =
       ap (same (part k m ++ replicate n 0)) (part_append k m n)
       ∙ same_append (part k m) (part k m) (replicate n 0) (part (k + m) n) refl
-      ∙ ap (λ (b : Bool). b && zeros (k + m) n) (same_refl (part k m))
-
-  -- one word more
-  pub zero_more : (i end : ℕ) → i < end → f i ≡ 0 → zeros i (end - i) ≡ zeros (suc i) (end - suc i)
-  unfolding numbers same
-  zero_more i end h e =
-      let s : end - i ≡ suc (end - suc i) = omega arith in
-      ap (zeros i) s ∙ rw (eq-eqb 0 (f i) (sym e))
-
-  pub zero_less : (i end : ℕ) → i < end → (f i ≡ 0 → ⊥) → zeros i (end - i) ≡ false
-  unfolding numbers same
-  zero_less i end h e =
-      let s : end - i ≡ suc (end - suc i) = omega arith in
-      ap (zeros i) s ∙ rw (ne_eqb 0 (f i) (λ z. e (sym z)))
+      ∙ ap₂ ◌&&◌ (same_refl (part k m)) (same_zeros (k + m) n)
 
 pairs_append : (xs ys : List Sleeper) → pairs (xs ++ ys) ≡ pairs xs ++ pairs ys
 unfolding flatten

@@ -4,8 +4,8 @@ use mathlib.Core.List.{flatten}
 use Rattle.tid.specs.Sizes.{area_bytes}
 use Rattle.queue.specs.Choose.{choose}
 use Rattle.queue.proofs.Below.{by_test}
-use Rattle.task.specs.declared.task.Result.{Result}
-use Rattle.task.specs.declared.task.Result.TheVariants.{Nothing, Value, Fault}
+use Rattle.task.specs.declared.task.Outcome.{Outcome}
+use Rattle.task.specs.declared.task.Outcome.TheVariants.{Nothing, Value, Fault}
 use Rattle.task.specs.Result.{negated}
 use Rattle.kernel.specs.Numbers.{accepted, none_active}
 use Rattle.step.specs.Every.{Every, none, more, numbers}
@@ -55,7 +55,7 @@ words_back (more {x} {xs = ws} small rest) =
 -- WHAT A TASK IS TOLD
 
 -- a result of the kernel's: a tid is a byte, a value a word, a fault 1, 2 or 3
-abbrev pub Told : Result → Type 0
+abbrev pub Told : Outcome → Type 0
 Told Nothing = Unit
 Told (Value from cut v) = (from < 256) × Word v
 Told (Fault f) = (1 ≤ f) × (f ≤ 3)
@@ -91,7 +91,7 @@ pub record Keeps {S : Type 0} (m : Machine S) (n : ℕ) (words : S → List ℕ)
   pub back : {s : S} → Rule s → from (words s) ≡ s
   pub taken : {s : S} → Rule s → good (words s) ≡ true
   pub asked : {s : S} → Rule s → Rule (m.asked s)
-  pub told : {s : S} → Rule s → (o : Result) (area : List ℕ) → Told o → Every (λ x. x < 256) area → Rule (m.told s o area)
+  pub told : {s : S} → Rule s → (o : Outcome) (area : List ℕ) → Told o → Every (λ x. x < 256) area → Rule (m.told s o area)
 
 module _ {S : Type 0} {m : Machine S} {n : ℕ} {words : S → List ℕ} {from : List ℕ → S} {good : List ℕ → Bool} {Rule : S → Type 0}
     (k : Keeps m n words from good Rule) where

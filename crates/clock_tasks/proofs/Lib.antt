@@ -10,5 +10,6 @@ mod Kept
 pub mod Laws
 mod NotifierKept
 mod Rows
+mod Same
 mod Sane
 mod WordBytes

@@ -1,8 +1,8 @@
 -- The notifier's words are read back as the notifier, whatever it is told.
 use Rattle.std.proofs.Common.{◌≡◌, ℕ, ◌<◌, min, eqb, ltb, refl, ap, ◌∙◌, arith, ltb-true}
 use Rattle.tid.specs.Sizes.{events}
-use Rattle.task.specs.declared.task.Result.{Result}
-use Rattle.task.specs.declared.task.Result.TheVariants.{Nothing, Value, Fault}
+use Rattle.task.specs.declared.task.Outcome.{Outcome}
+use Rattle.task.specs.declared.task.Outcome.TheVariants.{Nothing, Value, Fault}
 use Rattle.task.proofs.Tests.{chosen}
 use Rattle.step.specs.Every.{Every, none, more}
 use Rattle.image.specs.Bytes.{same}
@@ -84,7 +84,7 @@ fails_rule h Waiting f = with_duty_lem h _ (chosen Within (eqb f 2) (λ e. omega
 fails_rule h Sending f = h
 fails_rule h Sent f = with_duty_lem h Awaiting (omega arith)
 
-told_rule : {s : Notifier} → Rule s → (o : Result) → Told o → Rule (Spec.told s o)
+told_rule : {s : Notifier} → Rule s → (o : Outcome) → Told o → Rule (Spec.told s o)
 told_rule h Nothing t = h
 told_rule {s} h (Value from cut v) t = hears_rule h s.duty t.1
 told_rule {s} h (Fault f) t = fails_rule h s.duty f

@@ -4,8 +4,8 @@ use Rattle.std.proofs.Common.{◌≡◌, ℕ, ◌+◌, ◌<◌, ◌≤◌, not, 
 use lib.ListN.{length-map}
 use lib.Seq.{take-append_seam}
 use Rattle.tid.specs.Sizes.{priorities}
-use Rattle.task.specs.declared.task.Result.{Result}
-use Rattle.task.specs.declared.task.Result.TheVariants.{Nothing, Value, Fault}
+use Rattle.task.specs.declared.task.Outcome.{Outcome}
+use Rattle.task.specs.declared.task.Outcome.TheVariants.{Nothing, Value, Fault}
 use Rattle.task.specs.Task.{is_negative}
 use Rattle.task.proofs.Tests.{chosen}
 use Rattle.step.specs.Every.{Every, none, more}
@@ -19,7 +19,7 @@ use Rattle.clock.specs.declared.clock.Asked.{Asked}
 use Rattle.clock.specs.declared.clock.Asked.TheVariants.{Tick, Time, Delay, Until, Unknown}
 use Rattle.clock.specs.declared.clock.Said.{Said}
 use Rattle.clock.specs.declared.clock.Said.TheVariants.{Count, Refused}
-use Rattle.clock.specs.declared.clock.Heard.{Heard}
+use Rattle.clock.specs.Clock.{Heard}
 use Rattle.clock.specs.Row.{room, hearers, sleeper, asleep, row_of, hearers_of, pushed_row, holds}
 use Rattle.clock.specs.Clock.{wrapped, is_due, counted, refusal, sleeps, waits, due_at, not_due_at, ticked, hear}
 use Rattle.clock.specs.Message.{size, asked_by, asked_in}
@@ -256,7 +256,7 @@ module _ {s : Server} (h : Sane s) where
   sane_fault (Replying k) = h
   sane_fault Listening = h
 
-  pub sane_told : (o : Result) (area : List ℕ) → Told o → Every (λ x. x < 256) area → Sane (told s o area)
+  pub sane_told : (o : Outcome) (area : List ℕ) → Told o → Every (λ x. x < 256) area → Sane (told s o area)
   sane_told Nothing area t bytes = h
   sane_told (Value from cut v) area t bytes = sane_value s.phase from v t.0 t.1 bytes
   sane_told (Fault f) area t bytes = sane_fault s.phase

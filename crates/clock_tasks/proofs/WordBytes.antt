@@ -1,8 +1,8 @@
 -- Words one after another as bytes, and read again; and what each turn of a loop over them does.
-use Rattle.std.proofs.Common.{◌≡◌, ℕ, suc, ◌+◌, ◌*◌, ◌<◌, ◌≤◌, false, ◌≢◌, List, [], ◌∷◌, ◌++◌, map, length, get_or, take, drop, sym, refl, ◌∙◌, append_assoc, append-nil, arith, length-append, length-drop, drop_of_length-le, length-take-le, drop-cons, take-suc, drop-drop, eq-eqb, ne_eqb}
+use Rattle.std.proofs.Common.{◌≡◌, ℕ, suc, ◌+◌, ◌*◌, ◌<◌, ◌≤◌, List, [], ◌∷◌, ◌++◌, map, length, get_or, take, drop, sym, refl, ◌∙◌, append_assoc, append-nil, arith, length-append, length-drop, drop_of_length-le, length-take-le, take-suc, drop-drop}
 use mathlib.Core.List.{flatten, map-append}
 use lib.Seq.{take-length}
-use Rattle.image.specs.Bytes.{bytes_of, same}
+use Rattle.image.specs.Bytes.{bytes_of}
 use Rattle.server.specs.Records.{with_word}
 use Rattle.server.proofs.Stored.{next_word}
 use Rattle.clock_tasks.specs.Words.{word_bytes, words_in}
@@ -51,16 +51,3 @@ pub put_all : (words bytes out : List ℕ) (i : ℕ) → i ≡ length words → 
     → out ≡ word_bytes (take i words) ++ drop (4 * i) bytes → out ≡ word_bytes words
 put_all words bytes out i all size e =
     e ∙ rw (all, take-length, drop_of_length-le bytes {i = 4 * length words} (omega arith)) (append-nil (word_bytes words))
-
--- COMPARED
-
--- where one more word is the same, what is left says all
-pub same_more : (a b : List ℕ) (i : ℕ) → i < length a → length a ≡ length b → get_or a i 0 ≡ get_or b i 0
-    → same (drop i a) (drop i b) ≡ same (drop (suc i) a) (drop (suc i) b)
-unfolding same
-same_more a b i h size e = rw (drop-cons a i 0 h, drop-cons b i 0 (omega arith), eq-eqb (get_or a i 0) (get_or b i 0) e)
-
-pub same_less : (a b : List ℕ) (i : ℕ) → i < length a → length a ≡ length b → get_or a i 0 ≢ get_or b i 0
-    → same (drop i a) (drop i b) ≡ false
-unfolding same
-same_less a b i h size e = rw (drop-cons a i 0 h, drop-cons b i 0 (omega arith), ne_eqb (get_or a i 0) (get_or b i 0) e)

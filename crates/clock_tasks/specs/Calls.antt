@@ -20,6 +20,7 @@ use Rattle.clock_tasks.specs.State as State
 use Rattle.clock_tasks.specs.Notifier as Notifier
 use Rattle.clock_tasks.specs.NotifierState as NotifierState
 use Rattle.clock_tasks.specs.Client as Client
+use Rattle.clock_tasks.specs.declared.client.Client as ClientStruct
 use Rattle.clock_tasks.specs.ClientState as ClientState
 
 -- the verdict that a call returns, and the state after it
@@ -59,6 +60,10 @@ asks_with refusal words r state out =
     choose (not (length out == request_length)) (written bad_record state out)
     (choose (nat_lt accepted refusal) (written refusal state out)
     (written accepted (word_bytes words) (request_bytes r)))
+
+-- what a task is asked for its request is refused by: the state's refusals, then 4 where it is over
+abbrev pub ask_refusal : ℕ → Bool → ℕ
+ask_refusal refusal over = choose (nat_lt accepted refusal) refusal (choose over none_active accepted)
 
 -- a task is told: 10, then 1, then the state's refusals
 abbrev pub told_with : ℕ → List ℕ → List ℕ → List ℕ → List ℕ → Kept
@@ -124,11 +129,14 @@ is_ended Sending = false
 is_ended Sent = false
 is_ended Ended = true
 
+-- whether the call of a state is over
+abbrev pub is_over : ClientStruct.Client → Bool
+is_over s = is_ended s.stage
+
 -- the state's refusals, then 4 where it is over
 abbrev pub asking_refusal : List ℕ → ℕ
 asking_refusal state =
-    let refusal = state_refusal ClientState.words ClientState.is_client state in
-    choose (nat_lt accepted refusal) refusal (choose (is_ended (ClientState.client_from (words_in ClientState.words state)).stage) none_active accepted)
+    ask_refusal (state_refusal ClientState.words ClientState.is_client state) (is_over (ClientState.client_from (words_in ClientState.words state)))
 
 unfoldable pub client_asks : List ℕ → List ℕ → Written
 client_asks state out =

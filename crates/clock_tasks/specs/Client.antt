@@ -1,8 +1,8 @@
 -- A call of the clock as its client makes it: eight own writes of the message, a Send, and what is made of the answer.
 use Rattle.std.specs.Prelude.{ℕ, ◌+◌, List, drop, nat_lt, slice_index}
 use Rattle.queue.specs.Choose.{choose}
-use Rattle.task.specs.declared.task.Result.{Result}
-use Rattle.task.specs.declared.task.Result.TheVariants.{Nothing, Value, Fault}
+use Rattle.task.specs.declared.task.Outcome.{Outcome}
+use Rattle.task.specs.declared.task.Outcome.TheVariants.{Nothing, Value, Fault}
 use Rattle.kernel.specs.declared.table.Request.{Request}
 use Rattle.kernel.specs.Numbers.{send_kind, own_write_kind}
 use Rattle.clock.specs.declared.clock.Asked as Question
@@ -41,7 +41,7 @@ abbrev pub asked : Client → Client
 asked s = record { clock = s.clock; asked = s.asked; offset = s.offset; stage = after s.stage; outcome = s.outcome }
 
 -- the call is over: what came of it is what the result, and the bytes behind the message, mean to one who asked this
-abbrev pub ended : Client → Result → List ℕ → Client
+abbrev pub ended : Client → Outcome → List ℕ → Client
 ended s o area =
     record {
       clock = s.clock;
@@ -52,16 +52,16 @@ ended s o area =
     }
 
 -- only what it is told once it has sent ends it
-abbrev pub answered_in : Client → Result → List ℕ → Client
+abbrev pub answered_in : Client → Outcome → List ℕ → Client
 answered_in s Nothing area = s
 answered_in s (Value from cut v) area = ended s (Value from cut v) area
 answered_in s (Fault f) area = ended s (Fault f) area
 
-abbrev pub told_in : Stage → Client → Result → List ℕ → Client
+abbrev pub told_in : Stage → Client → Outcome → List ℕ → Client
 told_in (Writing k) s o area = s
 told_in Sending s o area = s
 told_in Sent s o area = answered_in s o area
 told_in Ended s o area = s
 
-abbrev pub told : Client → Result → List ℕ → Client
+abbrev pub told : Client → Outcome → List ℕ → Client
 told s o area = told_in s.stage s o area

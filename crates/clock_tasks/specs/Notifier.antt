@@ -2,8 +2,8 @@
 -- sends a tick, again and again.
 use Rattle.std.specs.Prelude.{ℕ, ◌+◌, ◌==◌, nat_lt, slice_index}
 use Rattle.queue.specs.Choose.{choose}
-use Rattle.task.specs.declared.task.Result.{Result}
-use Rattle.task.specs.declared.task.Result.TheVariants.{Nothing, Value, Fault}
+use Rattle.task.specs.declared.task.Outcome.{Outcome}
+use Rattle.task.specs.declared.task.Outcome.TheVariants.{Nothing, Value, Fault}
 use Rattle.kernel.specs.declared.table.Request.{Request}
 use Rattle.kernel.specs.Numbers.{my_parent_tid_kind, send_kind, await_event_kind, own_write_kind}
 use Rattle.clock.specs.declared.clock.Asked.TheVariants.{Tick}
@@ -68,7 +68,7 @@ fails s Waiting f = with_duty s (choose (f == 2) Sending Awaiting)
 fails s Sending f = s
 fails s Sent f = with_duty s Awaiting
 
-abbrev pub told : Notifier → Result → Notifier
+abbrev pub told : Notifier → Outcome → Notifier
 told s Nothing = s
 told s (Value from cut v) = hears s s.duty v
 told s (Fault f) = fails s s.duty f

@@ -1,8 +1,8 @@
 -- The clock as a task of the kernel: a server (crates/server) whose service is the clock, and which first makes its notifier.
 use Rattle.std.specs.Prelude.{ℕ, min, List, [], ◌==◌, slice_index}
 use Rattle.queue.specs.Choose.{choose}
-use Rattle.task.specs.declared.task.Result.{Result}
-use Rattle.task.specs.declared.task.Result.TheVariants.{Nothing, Value, Fault}
+use Rattle.task.specs.declared.task.Outcome.{Outcome}
+use Rattle.task.specs.declared.task.Outcome.TheVariants.{Nothing, Value, Fault}
 use Rattle.kernel.specs.declared.table.Request.{Request}
 use Rattle.clock.specs.declared.row.Hearers.{Hearers}
 use Rattle.clock.specs.declared.clock.Clock.{Clock}
@@ -65,7 +65,7 @@ fault_in (Writing k) s = s
 fault_in (Replying k) s = s
 fault_in Listening s = s
 
-abbrev pub told : Server → Result → List ℕ → Server
+abbrev pub told : Server → Outcome → List ℕ → Server
 told s Nothing area = s
 told s (Value from cut v) area = value_in s.phase s from v area
 told s (Fault f) area = fault_in s.phase s
@@ -73,7 +73,7 @@ told s (Fault f) area = fault_in s.phase s
 -- THE SAME AS A SERVICE, of which crates/served proves what holds of every one in a run of the kernel
 
 -- the notifier's tid, by what Create told
-abbrev pub made_tid : Result → ℕ
+abbrev pub made_tid : Outcome → ℕ
 made_tid Nothing = 0
 made_tid (Value from cut v) = v
 made_tid (Fault f) = 0

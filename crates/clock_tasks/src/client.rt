@@ -7,7 +7,7 @@ use clock::message::{Meaning, SIZE, meant, request_byte};
 use kernel::numbers::{OWN_WRITE, SEND};
 use kernel::table::Request;
 use server::phase::ask;
-use task::task::Result;
+use task::task::Outcome;
 
 // A byte of the message is written; it is sent; the answer is waited for; or the call is over.
 #[derive(Clone, Copy, Drop)]
@@ -43,76 +43,44 @@ impl Client {
         }
     }
 
-    // What it asks next. Once it is over that is of no use, and whoever asks for it is refused (client_calls.rt).
+    // What it asks next. Once it is over that is of no use, and whoever asks for it is refused (machine.rt).
     pub(crate) fn request(self) -> Request
         ensures { result ≡ Spec.request self }
     {
-        let stage = self.stage;
-        let asked = self.asked;
-        let at = self.offset as u32;
-        match stage {
-            Stage::Writing(k) => ask(OWN_WRITE, at + k as u32, request_byte(asked, k) as u32, 0),
-            Stage::Sending => send(self.clock, at),
-            Stage::Sent => send(self.clock, at),
-            Stage::Ended => send(self.clock, at),
+        let at = u32::from(self.offset);
+        match self.stage {
+            Stage::Writing(k) => {
+                let byte = request_byte(self.asked, k);
+                ask(OWN_WRITE, at + u32::from(k), u32::from(byte), 0)
+            }
+            Stage::Sending | Stage::Sent | Stage::Ended => send(self.clock, at),
         }
     }
 
     // Once that is asked.
-    pub(crate) fn asked(self) -> Self
-        ensures { result ≡ Spec.asked self }
+    pub(crate) fn asked(&mut self)
+        ensures { self.new ≡ Spec.asked self.old }
     {
-        let asked = self.asked;
-        let stage = self.stage;
-        let outcome = self.outcome;
-        Client {
-            clock: self.clock,
-            asked,
-            offset: self.offset,
-            stage: after(stage),
-            outcome,
-        }
+        self.stage = after(self.stage);
     }
 
     // What it is told when it becomes active, and its own area.
-    pub(crate) fn told(self, res: Result, area: &[u8]) -> Self
-        ensures { result ≡ Spec.told self res area.now }
+    pub(crate) fn told(&mut self, res: Outcome, area: &[u8])
+        ensures { self.new ≡ Spec.told self.old res area.now }
     {
-        let stage = self.stage;
-        match stage {
-            Stage::Writing(_) => self,
-            Stage::Sending => self,
-            Stage::Sent => match res {
-                Result::Nothing => self,
-                Result::Value {
-                    from: _,
-                    cut: _,
-                    value: _,
-                } => self.ended(res, area),
-                Result::Fault(_) => self.ended(res, area),
-            },
-            Stage::Ended => self,
+        match (self.stage, res) {
+            (Stage::Sent, Outcome::Value { .. } | Outcome::Fault(_)) => self.ended(res, area),
+            _ => {}
         }
     }
 
     // The call is over.
-    fn ended(self, res: Result, area: &[u8]) -> Self
-        ensures { result ≡ Spec.ended self res area.now }
+    fn ended(&mut self, res: Outcome, area: &[u8])
+        ensures { self.new ≡ Spec.ended self.old res area.now }
     {
-        let asked = self.asked;
-        let behind = self.offset as usize + 8;
-        let start = if behind < area.len() {
-            behind
-        } else {
-            area.len()
-        };
-        Client {
-            clock: self.clock,
-            asked,
-            offset: self.offset,
-            stage: Stage::Ended,
-            outcome: meant(asked, res, &area[start..]),
-        }
+        let behind = area.len().min(self.offset as usize + 8);
+        self.outcome = meant(self.asked, res, &area[behind..]);
+        self.stage = Stage::Ended;
     }
 }
 
@@ -135,14 +103,9 @@ fn after(stage: Stage) -> Stage
     ensures { result ≡ Spec.after stage }
 {
     match stage {
-        Stage::Writing(k) => {
-            if k < 7 {
-                return Stage::Writing(k + 1);
-            }
-            Stage::Sending
-        }
-        Stage::Sending => Stage::Sent,
-        Stage::Sent => Stage::Sent,
+        Stage::Writing(k) if k < 7 => Stage::Writing(k + 1),
+        Stage::Writing(_) => Stage::Sending,
+        Stage::Sending | Stage::Sent => Stage::Sent,
         Stage::Ended => Stage::Ended,
     }
 }

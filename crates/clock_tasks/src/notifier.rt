@@ -7,7 +7,10 @@ use clock::message::{SIZE, request_byte};
 use kernel::numbers::{AWAIT_EVENT, MY_PARENT_TID, OWN_WRITE, SEND};
 use kernel::table::Request;
 use server::phase::ask;
-use task::task::Result;
+use task::task::Outcome;
+
+// The fault of an event whose data was negative.
+const NEGATIVE_DATA: u8 = 2;
 
 // What is asked next: who made it; a byte of the tick's message, once for all; the event; the Send. Asked, Waiting and Sent are those of
 // them that it waits to be told of.
@@ -59,101 +62,42 @@ impl Notifier {
     pub(crate) fn request(self) -> Request
         ensures { result ≡ Spec.request self }
     {
-        let duty = self.duty;
-        match duty {
-            Duty::Asking => ask(MY_PARENT_TID, 0, 0, 0),
-            Duty::Asked => ask(MY_PARENT_TID, 0, 0, 0),
-            Duty::Writing(k) => ask(OWN_WRITE, k as u32, request_byte(Asked::Tick, k) as u32, 0),
-            Duty::Awaiting => ask(AWAIT_EVENT, self.event as u32, 0, 0),
-            Duty::Waiting => ask(AWAIT_EVENT, self.event as u32, 0, 0),
-            Duty::Sending => send_tick(self.clock),
-            Duty::Sent => send_tick(self.clock),
+        match self.duty {
+            Duty::Asking | Duty::Asked => ask(MY_PARENT_TID, 0, 0, 0),
+            Duty::Writing(k) => {
+                let byte = request_byte(Asked::Tick, k);
+                ask(OWN_WRITE, u32::from(k), u32::from(byte), 0)
+            }
+            Duty::Awaiting | Duty::Waiting => ask(AWAIT_EVENT, u32::from(self.event), 0, 0),
+            Duty::Sending | Duty::Sent => send_tick(self.clock),
         }
     }
 
     // Once that is asked.
-    pub(crate) fn asked(self) -> Self
-        ensures { result ≡ Spec.asked self }
+    pub(crate) fn asked(&mut self)
+        ensures { self.new ≡ Spec.asked self.old }
     {
-        let duty = self.duty;
-        Notifier {
-            event: self.event,
-            clock: self.clock,
-            duty: after(duty),
-        }
+        self.duty = after(self.duty);
     }
 
-    // What it is told when it becomes active.
-    pub(crate) fn told(self, res: Result) -> Self
-        ensures { result ≡ Spec.told self res }
+    // What it is told when it becomes active. A value is its parent's tid where it asked for that, and else ends what it waited for. The
+    // fault of an event's data is a tick still, since the event happened. Any other fault is none: it waits for the next.
+    pub(crate) fn told(&mut self, res: Outcome)
+        ensures { self.new ≡ Spec.told self.old res }
     {
-        let duty = self.duty;
-        match res {
-            Result::Nothing => self,
-            Result::Value {
-                from: _,
-                cut: _,
-                value,
-            } => self.hears(duty, value),
-            Result::Fault(f) => self.fails(duty, f),
-        }
-    }
-
-    // A value is its parent's tid where it asked for that, and else ends what it waited for.
-    fn hears(self, duty: Duty, value: u32) -> Self
-        ensures { result ≡ Spec.hears self duty value }
-    {
-        let event = self.event;
-        let clock = self.clock;
-        match duty {
-            Duty::Asking => self,
-            Duty::Asked => Notifier {
-                event,
-                clock: value,
-                duty: Duty::Writing(0),
-            },
-            Duty::Writing(_) => self,
-            Duty::Awaiting => self,
-            Duty::Waiting => Notifier {
-                event,
-                clock,
-                duty: Duty::Sending,
-            },
-            Duty::Sending => self,
-            Duty::Sent => Notifier {
-                event,
-                clock,
-                duty: Duty::Awaiting,
-            },
-        }
-    }
-
-    // The fault of an event's data is a tick still, since the event happened. Any other fault is none: it waits for the next.
-    fn fails(self, duty: Duty, fault: u8) -> Self
-        ensures { result ≡ Spec.fails self duty fault }
-    {
-        let event = self.event;
-        let clock = self.clock;
-        match duty {
-            Duty::Asking => self,
-            Duty::Asked => self,
-            Duty::Writing(_) => self,
-            Duty::Awaiting => self,
-            Duty::Waiting => Notifier {
-                event,
-                clock,
-                duty: if fault == 2 {
-                    Duty::Sending
-                } else {
-                    Duty::Awaiting
-                },
-            },
-            Duty::Sending => self,
-            Duty::Sent => Notifier {
-                event,
-                clock,
-                duty: Duty::Awaiting,
-            },
+        match (self.duty, res) {
+            (Duty::Asked, Outcome::Value { value, .. }) => {
+                self.clock = value;
+                self.duty = Duty::Writing(0);
+            }
+            (Duty::Waiting, Outcome::Value { .. } | Outcome::Fault(NEGATIVE_DATA)) => {
+                self.duty = Duty::Sending;
+            }
+            (Duty::Waiting, Outcome::Fault(_))
+            | (Duty::Sent, Outcome::Value { .. } | Outcome::Fault(_)) => {
+                self.duty = Duty::Awaiting;
+            }
+            _ => {}
         }
     }
 }
@@ -162,17 +106,10 @@ fn after(duty: Duty) -> Duty
     ensures { result ≡ Spec.after duty }
 {
     match duty {
-        Duty::Asking => Duty::Asked,
-        Duty::Asked => Duty::Asked,
-        Duty::Writing(k) => {
-            if k < 7 {
-                return Duty::Writing(k + 1);
-            }
-            Duty::Awaiting
-        }
-        Duty::Awaiting => Duty::Waiting,
-        Duty::Waiting => Duty::Waiting,
-        Duty::Sending => Duty::Sent,
-        Duty::Sent => Duty::Sent,
+        Duty::Asking | Duty::Asked => Duty::Asked,
+        Duty::Writing(k) if k < 7 => Duty::Writing(k + 1),
+        Duty::Writing(_) => Duty::Awaiting,
+        Duty::Awaiting | Duty::Waiting => Duty::Waiting,
+        Duty::Sending | Duty::Sent => Duty::Sent,
     }
 }

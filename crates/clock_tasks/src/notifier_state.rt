@@ -1,12 +1,15 @@
 // The notifier as the four words that a host keeps.
-ghost use Rattle.std.specs.Prelude.{◌≡◌, ◌*◌, length};
-ghost use Rattle.clock_tasks.specs.Words.{word_bytes, words_in};
-ghost use Rattle.clock_tasks.specs.Calls.{state_refusal};
+ghost use Rattle.std.specs.Prelude.{◌≡◌, false};
 ghost use Rattle.clock_tasks.specs.NotifierState as Spec;
+ghost use Rattle.std.proofs.Common.{rules};
 
+use crate::array::Words;
+use crate::machine::Machine;
 use crate::notifier::{Duty, Notifier};
-use crate::words::{at_most, put_words, read_words, same_words};
-use kernel::numbers::{ACCEPTED, BAD_IMAGE, BAD_TABLE};
+use crate::words::at_most;
+use kernel::refusal::Refusal;
+use kernel::table::Request;
+use task::task::Outcome;
 use tid::sizes::EVENTS;
 
 pub(crate) const WORDS: usize = 4;
@@ -30,96 +33,107 @@ fn place(duty: Duty) -> u32
     ensures { result ≡ Spec.place duty }
 {
     match duty {
-        Duty::Asking => 0,
-        Duty::Asked => 0,
-        Duty::Writing(k) => k as u32,
-        Duty::Awaiting => 0,
-        Duty::Waiting => 0,
-        Duty::Sending => 0,
-        Duty::Sent => 0,
+        Duty::Writing(k) => u32::from(k),
+        _ => 0,
     }
 }
 
 fn duty_of(code: u32, k: u32) -> Duty
     ensures { result ≡ Spec.duty_of code k }
 {
-    if code == 0 {
-        return Duty::Asking;
-    }
-    if code == 1 {
-        return Duty::Asked;
-    }
-    if code == 2 {
-        return Duty::Writing(at_most(k, 7));
-    }
-    if code == 3 {
-        return Duty::Awaiting;
-    }
-    if code == 4 {
-        return Duty::Waiting;
-    }
-    if code == 5 {
-        return Duty::Sending;
-    }
-    Duty::Sent
-}
-
-fn words_of(s: Notifier) -> [u32; WORDS]
-    ensures { result ≡ Spec.notifier_words s }
-{
-    let duty = s.duty;
-    [duty_code(duty), place(duty), s.event as u32, s.clock]
-}
-
-fn notifier_from(words: [u32; WORDS]) -> Notifier
-    ensures { result ≡ Spec.notifier_from words }
-{
-    Notifier {
-        event: at_most(words[2], (EVENTS - 1) as u8),
-        clock: words[3],
-        duty: duty_of(words[0], words[1]),
+    match code {
+        0 => Duty::Asking,
+        1 => Duty::Asked,
+        2 => Duty::Writing(at_most(k, 7)),
+        3 => Duty::Awaiting,
+        4 => Duty::Waiting,
+        5 => Duty::Sending,
+        _ => Duty::Sent,
     }
 }
 
-fn is_notifier(words: [u32; WORDS]) -> bool
-    ensures { result ≡ Spec.is_notifier words }
-{
-    let again = words_of(notifier_from(words));
-    same_words(&again, &words)
-}
+impl Words<WORDS> for Notifier {
+    ghost is_kept = { Spec.is_notifier };
 
-fn words_in(state: &[u8]) -> [u32; WORDS]
-    ensures { result ≡ words_in Spec.words state.now }
-{
-    let mut words = [0; WORDS];
-    read_words(state, &mut words);
-    words
-}
+    ghost from_words = { Spec.notifier_from };
 
-// By what a state is refused, 0 where it is none.
-pub(crate) fn refusal(state: &[u8]) -> u8
-    ensures { result ≡ state_refusal Spec.words Spec.is_notifier state.now }
-{
-    if state.len() != 4 * WORDS {
-        return BAD_IMAGE;
+    ghost to_words = { Spec.notifier_words };
+
+    fn is_one(words: [u32; WORDS]) -> bool
+        ensures { result ≡ Spec.is_notifier words }
+    {
+        Self::of(words).words() == words
     }
-    if is_notifier(words_in(state)) {
-        ACCEPTED
-    } else {
-        BAD_TABLE
+
+    fn of(words: [u32; WORDS]) -> Self
+        ensures { result ≡ Spec.notifier_from words }
+    {
+        Self {
+            event: at_most(words[2], (EVENTS - 1) as u8),
+            clock: words[3],
+            duty: duty_of(words[0], words[1]),
+        }
+    }
+
+    fn words(self) -> [u32; WORDS] {
+        [
+            duty_code(self.duty),
+            place(self.duty),
+            u32::from(self.event),
+            self.clock,
+        ]
     }
 }
 
-pub(crate) fn read(state: &[u8]) -> Notifier
-    ensures { result ≡ Spec.notifier_from (words_in Spec.words state.now) }
-{
-    notifier_from(words_in(state))
-}
+impl Machine for Notifier {
+    ghost use Rattle.clock_tasks.specs.Notifier as Task;
 
-pub(crate) fn put(s: Notifier, state: &mut [u8])
-    requires { length state.old ≡ 4 * Spec.words }
-    ensures { state.new ≡ word_bytes (Spec.notifier_words s) }
-{
-    let words = words_of(s);
-    put_words(&words, &mut *state);
+    ghost WORDS = { Spec.words };
+
+    const WORDS: usize = WORDS;
+
+    ghost is_kept = { Spec.is_notifier };
+
+    ghost from_words = { Spec.notifier_from };
+
+    ghost to_words = { Spec.notifier_words };
+
+    ghost asks = { Task.request };
+
+    ghost asked = { Task.asked };
+
+    // Of its own area it reads nothing.
+    ghost told = { λ s res area. Task.told s res };
+
+    ghost is_over = { λ s. false };
+
+    fn check(state: &[u8]) -> Result<(), Refusal> {
+        <Self as Words<WORDS>>::check(state)
+    }
+
+    fn put(self, state: &mut [u8]) {
+        Words::put(self, state)
+    }
+
+    fn ask(state: &[u8]) -> Request {
+        Self::read(state).request()
+    }
+
+    fn put_asked(state: &mut [u8]) {
+        let mut notifier = Self::read(state);
+        notifier.asked();
+        Words::put(notifier, state);
+    }
+
+    fn over(_state: &[u8]) -> bool {
+        false
+    }
+
+    fn put_told(state: &mut [u8], res: Outcome, _area: &[u8]) {
+        let mut notifier = Self::read(state);
+        notifier.told(res);
+        Words::put(notifier, state);
+    }
+
+    ghost few = { Prim.search rules };
 }

@@ -1,5 +1,6 @@
 // The clock's task as the words that a host keeps.
-ghost use Rattle.std.specs.Prelude.{◌≡◌, ◌-◌, ◌*◌, ◌<◌, ◌≤◌, min, true, ◌&&◌, map, length, replicate, ◌==◌, slice_index};
+ghost use Rattle.std.specs.Prelude.{◌≡◌, ◌-◌, ◌*◌, ◌<◌, ◌≤◌, min, true, false, ◌&&◌, map, length, replicate, ◌==◌, slice_index};
+ghost use Rattle.std.specs.List.{list_all, range_with_len};
 ghost use mathlib.Core.List.{flatten};
 ghost use Rattle.std.proofs.Math.Seq.{paste};
 ghost use Rattle.step.specs.Every.{numbers};
@@ -11,16 +12,19 @@ ghost use Rattle.clock_tasks.specs.Words.{word_bytes, words_in};
 ghost use Rattle.clock_tasks.specs.Calls.{state_refusal};
 ghost use Rattle.clock_tasks.specs.Server.{request, asked};
 ghost use Rattle.clock_tasks.specs.State as Spec;
+ghost use Rattle.std.proofs.Common.{rules};
 
+use crate::machine::Machine;
 use crate::serving::{Server, answered};
 use crate::words::{at_most, put_words};
 use clock::clock::{Clock, Said};
-use clock::message::{SIZE, answer_byte, count_of, status_of};
+use clock::message::{MINUS_2, MINUS_3, MINUS_4, SIZE, answer_byte, count_of, status_of};
 use clock::row::{HEARERS, Hearers, ROOM, Row, Sleeper};
-use kernel::numbers::{ACCEPTED, BAD_IMAGE, BAD_TABLE};
+use kernel::refusal::Refusal;
 use kernel::table::Request;
 use server::phase::{Phase, after, place, request_in};
 use server::words::put_word;
+use task::task::Outcome;
 use tid::sizes::PRIORITIES;
 
 // How many words.
@@ -64,43 +68,32 @@ fn phase_code(phase: Phase) -> u32
 fn phase_of(code: u32, k: u32) -> Phase
     ensures { result ≡ Spec.phase_of code k }
 {
-    if code == 0 {
-        return Phase::Making;
+    match code {
+        0 => Phase::Making,
+        1 => Phase::Made,
+        2 => Phase::Writing(at_most(k, 7)),
+        3 => Phase::Replying(at_most(k, HEARERS as u8)),
+        _ => Phase::Listening,
     }
-    if code == 1 {
-        return Phase::Made;
-    }
-    if code == 2 {
-        return Phase::Writing(at_most(k, 7));
-    }
-    if code == 3 {
-        return Phase::Replying(at_most(k, HEARERS as u8));
-    }
-    Phase::Listening
 }
 
 // -2, -3 and -4 are refusals; any other status is a count's.
 fn said_of(status: u32, count: u32) -> Said
     ensures { result ≡ Spec.said_of status count }
 {
-    if status == 4294967294 {
-        return Said::Refused(2);
+    match status {
+        MINUS_2 => Said::Refused(2),
+        MINUS_3 => Said::Refused(3),
+        MINUS_4 => Said::Refused(4),
+        _ => Said::Count(count),
     }
-    if status == 4294967293 {
-        return Said::Refused(3);
-    }
-    if status == 4294967292 {
-        return Said::Refused(4);
-    }
-    Said::Count(count)
 }
 
 // How many sleep: no more than there are places for.
 fn asleep(row: Row) -> u32
     ensures { result ≡ min row.len room }
 {
-    let len = row.len;
-    if len <= ROOM { len as u32 } else { ROOM as u32 }
+    row.len.min(ROOM) as u32
 }
 
 // A word of a state. Where the bytes end is known here, so that four of them are one read.
@@ -119,13 +112,11 @@ fn row_of(state: &[u8]) -> Row
 {
     let len = at_most(word(state, ASLEEP), ROOM as u8) as usize;
     let mut places = [Sleeper { tid: 0, due: 0 }; ROOM];
-    let mut i = 0;
-    while i < len {
+    for i in 0..len {
         places[i] = Sleeper {
             tid: word(state, SLEEPERS + 2 * i),
             due: word(state, SLEEPERS + 2 * i + 1),
         };
-        i += 1;
     }
     Row { places, len }
 }
@@ -137,10 +128,8 @@ fn hearers_of(state: &[u8]) -> Hearers
 {
     let len = at_most(word(state, ANSWERED), HEARERS as u8) as usize;
     let mut tids = [0u32; HEARERS];
-    let mut i = 0;
-    while i < len {
+    for i in 0..len {
         tids[i] = word(state, TIDS + i);
-        i += 1;
     }
     Hearers { tids, len }
 }
@@ -168,13 +157,9 @@ fn put_sleepers(row: Row, words: &mut [u32])
     requires { length words.old ≡ Spec.words }
     ensures { words.new ≡ paste words.old Spec.sleepers_at (flatten (map Spec.sleeper_words row.places)) (2 * room) }
 {
-    let places = row.places;
-    let mut i = 0;
-    while i < ROOM {
-        let x = places[i];
+    for (i, x) in row.places.iter().enumerate() {
         words[SLEEPERS + 2 * i] = x.tid;
         words[SLEEPERS + 2 * i + 1] = x.due;
-        i += 1;
     }
 }
 
@@ -182,11 +167,8 @@ fn put_hearers(to: Hearers, words: &mut [u32])
     requires { length words.old ≡ Spec.words }
     ensures { words.new ≡ paste words.old Spec.hearers_at to.tids hearers }
 {
-    let tids = to.tids;
-    let mut i = 0;
-    while i < HEARERS {
-        words[TIDS + i] = tids[i];
-        i += 1;
+    for (i, tid) in to.tids.iter().enumerate() {
+        words[TIDS + i] = *tid;
     }
 }
 
@@ -194,46 +176,34 @@ fn put_hearers(to: Hearers, words: &mut [u32])
 fn words_of(s: Server) -> [u32; WORDS]
     ensures { result ≡ Spec.server_words s }
 {
-    let phase = s.phase;
-    let clock = s.clock;
-    let row = clock.row;
-    let said = s.said;
-    let to = s.to;
     let mut words = [0u32; WORDS];
-    words[PHASE] = phase_code(phase);
-    words[PLACE] = place(phase) as u32;
-    words[PRIORITY] = s.priority as u32;
-    words[NOTIFIER] = clock.notifier;
-    words[COUNT] = clock.count;
-    words[STATUS] = status_of(said);
-    words[SAID] = count_of(said);
-    words[ASLEEP] = asleep(row);
-    words[ANSWERED] = answered(to) as u32;
-    put_sleepers(row, &mut words);
-    put_hearers(to, &mut words);
+    words[PHASE] = phase_code(s.phase);
+    words[PLACE] = u32::from(place(s.phase));
+    words[PRIORITY] = u32::from(s.priority);
+    words[NOTIFIER] = s.clock.notifier;
+    words[COUNT] = s.clock.count;
+    words[STATUS] = status_of(s.said);
+    words[SAID] = count_of(s.said);
+    words[ASLEEP] = asleep(s.clock.row);
+    words[ANSWERED] = u32::from(answered(s.to));
+    put_sleepers(s.clock.row, &mut words);
+    put_hearers(s.to, &mut words);
     words
 }
 
 // Whether the words of a state from a place on, up to another, are all 0.
 fn zero_from(state: &[u8], from: usize, end: usize) -> bool
     requires { (length state.now ≡ 4 * Spec.words) × (from ≤ end) × (end ≤ Spec.words) }
-    ensures { result ≡ same (replicate (end - from) 0) (map (λ i. number_in state.now (4 * i) 4) (numbers from (end - from))) }
+    ensures { result ≡ list_all (λ i. number_in state.now (4 * i) 4 == 0) (range_with_len from (end - from)) }
 {
-    let mut i = from;
-    while i < end {
-        if word(state, i) != 0 {
-            return false;
-        }
-        i += 1;
-    }
-    true
+    (from..end).all(|i| word(state, i) == 0)
 }
 
 // Whether a word is one that is held to the largest that there is.
 fn within(word: u32, most: u8) -> bool
     ensures { result ≡ ((min word most) == word) }
 {
-    word <= most as u32
+    word <= u32::from(most)
 }
 
 // Whether two words are those of a phase.
@@ -241,7 +211,7 @@ fn is_phase(code: u32, k: u32) -> bool
     ensures { result ≡ (Spec.phase_code (Spec.phase_of code k) == code) && (place (Spec.phase_of code k) == k) }
 {
     let phase = phase_of(code, k);
-    (phase_code(phase) == code) & (place(phase) as u32 == k)
+    (phase_code(phase) == code) & (u32::from(place(phase)) == k)
 }
 
 // Whether two words are those of what was said.
@@ -271,26 +241,11 @@ fn is_server(state: &[u8]) -> bool
         & zero_from(state, TIDS + hearers, WORDS)
 }
 
-// By what a state is refused, 0 where it is none.
-pub(crate) fn refusal(state: &[u8]) -> u8
-    ensures { result ≡ state_refusal Spec.words Spec.is_server state.now }
-{
-    if state.len() != 4 * WORDS {
-        return BAD_IMAGE;
-    }
-    if is_server(state) {
-        ACCEPTED
-    } else {
-        BAD_TABLE
-    }
-}
-
 pub(crate) fn put(s: Server, state: &mut [u8])
     requires { length state.old ≡ 4 * Spec.words }
     ensures { state.new ≡ word_bytes (Spec.server_words s) }
 {
-    let words = words_of(s);
-    put_words(&words, &mut *state);
+    put_words(&words_of(s), state);
 }
 
 // Who is answered at a place; 0 past the last.
@@ -324,9 +279,66 @@ pub(crate) fn put_asked(state: &mut [u8])
     requires { (length state.old ≡ 4 * Spec.words) × (Spec.is_server (words_in Spec.words state.old) ≡ true) }
     ensures { state.new ≡ word_bytes (Spec.server_words (asked (Spec.server_from (words_in Spec.words state.old)))) }
 {
-    let len = at_most(word(&*state, ANSWERED), HEARERS as u8);
-    let now = phase_of(word(&*state, PHASE), word(&*state, PLACE));
+    let len = at_most(word(state, ANSWERED), HEARERS as u8);
+    let now = phase_of(word(state, PHASE), word(state, PLACE));
     let next = after(now, SIZE as u8, len);
-    put_word(&mut *state, 4 * PHASE as u8, phase_code(next));
-    put_word(&mut *state, 4 * PLACE as u8, place(next) as u32);
+    put_word(state, 4 * PHASE as u8, phase_code(next));
+    put_word(state, 4 * PLACE as u8, u32::from(place(next)));
+}
+
+impl Machine for Server {
+    ghost use Rattle.clock_tasks.specs.Server as Task;
+
+    ghost WORDS = { Spec.words };
+
+    const WORDS: usize = WORDS;
+
+    ghost is_kept = { Spec.is_server };
+
+    ghost from_words = { Spec.server_from };
+
+    ghost to_words = { Spec.server_words };
+
+    ghost asks = { Task.request };
+
+    ghost asked = { Task.asked };
+
+    ghost told = { Task.told };
+
+    ghost is_over = { λ s. false };
+
+    fn check(state: &[u8]) -> Result<(), Refusal> {
+        if state.len() != 4 * WORDS {
+            return Err(Refusal::BadImage);
+        }
+        if is_server(state) {
+            Ok(())
+        } else {
+            Err(Refusal::BadTable)
+        }
+    }
+
+    fn put(self, state: &mut [u8]) {
+        put(self, state)
+    }
+
+    fn ask(state: &[u8]) -> Request {
+        asks(state)
+    }
+
+    fn put_asked(state: &mut [u8]) {
+        put_asked(state)
+    }
+
+    fn over(_state: &[u8]) -> bool {
+        false
+    }
+
+    fn put_told(state: &mut [u8], res: Outcome, area: &[u8]) {
+        let mut server = read(state);
+        server.told(res, area);
+        put(server, state);
+    }
+
+    ghost few = { Prim.search rules };
 }

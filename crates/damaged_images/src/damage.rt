@@ -1,8 +1,8 @@
 // Which byte breaks a record where, and whether it does.
+use crate::busy::Stored;
 use image::fields::RECORD;
 use image::stored::{IMAGE, read};
-use kernel::numbers::BAD_TABLE;
-use std::num::wrapping_add_u64;
+use kernel::refusal::Refusal;
 use task::parts::RECEIVE_BLOCKED;
 
 // How many positions a record has.
@@ -41,31 +41,23 @@ pub(crate) fn wrong(tid: u8, state: u8, at: u8, old: u8) -> u8 {
     }
 }
 
-// An image with one byte of it replaced.
-fn replaced(image: [u8; IMAGE], at: usize, byte: u8) -> [u8; IMAGE] {
-    let mut damaged = image;
-    if at < IMAGE {
-        damaged[at] = byte;
-    }
-    damaged
-}
-
-// Whether it is refused by 2 in an edition.
-pub(crate) fn breaks(edition: u32, image: [u8; IMAGE], at: usize, byte: u8) -> bool {
-    let damaged = replaced(image, at, byte);
-    let reading = read(edition, &damaged);
-    reading.verdict == BAD_TABLE
-}
-
-// How many values a byte can have with the image accepted.
-pub(crate) fn good_values(edition: u32, image: [u8; IMAGE], at: usize) -> u64 {
-    let mut good = 0u64;
-    let mut value = 0u64;
-    while value < 256 {
-        if !breaks(edition, image, at, value as u8) {
-            good = wrapping_add_u64(good, 1);
+impl Stored {
+    // The image with one byte of it replaced.
+    fn replaced(&self, at: usize, byte: u8) -> [u8; IMAGE] {
+        let mut damaged = self.image;
+        if let Some(place) = damaged.get_mut(at) {
+            *place = byte;
         }
-        value += 1;
+        damaged
     }
-    good
+
+    // Whether that is refused by 2.
+    pub(crate) fn breaks(&self, at: usize, byte: u8) -> bool {
+        read(self.edition, &self.replaced(at, byte)).verdict == Refusal::BadTable.number()
+    }
+
+    // How many values a byte can have with the image accepted.
+    pub(crate) fn good_values(&self, at: usize) -> usize {
+        (0..=255u8).filter(|value| !self.breaks(at, *value)).count()
+    }
 }

@@ -4,25 +4,20 @@ use image::fields::{PLACE, RECORD};
 use image::stored::IMAGE;
 use std::io;
 
-fn write_placed(
-    rt: &impl Print,
-    name: &str,
-    image: [u8; IMAGE],
-    second: u8,
-    third: u8,
-) -> io::Result<()> {
-    let mut placed = image;
-    placed[RECORD + PLACE] = second;
-    placed[2 * RECORD + PLACE] = third;
-    write_whole(rt, name, &mut placed)
-}
-
 pub(crate) fn write_waiters(rt: &impl Print, image: [u8; IMAGE]) -> io::Result<()> {
-    write_placed(rt, "two waiters for one event", image, 0, 1)?;
-    write_placed(rt, "two waiters, tid 3 before tid 2", image, 1, 0)?;
-    write_placed(rt, "two waiters, both first", image, 0, 0)?;
-    write_placed(rt, "two waiters, both second", image, 1, 1)?;
-    write_placed(rt, "two waiters, a gap between them", image, 0, 2)?;
-    write_placed(rt, "two waiters, a gap before them", image, 1, 2)?;
-    write_placed(rt, "two waiters, one past the last place", image, 0, 32)
+    for (name, second, third) in [
+        ("two waiters for one event", 0, 1),
+        ("two waiters, tid 3 before tid 2", 1, 0),
+        ("two waiters, both first", 0, 0),
+        ("two waiters, both second", 1, 1),
+        ("two waiters, a gap between them", 0, 2),
+        ("two waiters, a gap before them", 1, 2),
+        ("two waiters, one past the last place", 0, 32),
+    ] {
+        let mut placed = image;
+        placed[RECORD + PLACE] = second;
+        placed[2 * RECORD + PLACE] = third;
+        write_whole(rt, name, &mut placed)?;
+    }
+    Ok(())
 }

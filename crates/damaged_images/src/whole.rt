@@ -1,6 +1,7 @@
 // Images of other lengths and of other bytes, and the unbroken one.
+use crate::busy::request;
 use entry::kernel_step;
-use image::call::{ANSWER, REQUEST};
+use image::call::ANSWER;
 use image::fields::{AWAITED, ENTRY, PLACE, RECORD};
 use image::form::reform;
 use image::stored::{IMAGE, read};
@@ -16,59 +17,44 @@ const OLD: usize = SLOTS * ENTRY;
 
 // What a step says of an image: an event that nobody awaits is refused for nothing else.
 fn step_verdict(edition: u32, image: &mut [u8]) -> u32 {
-    let mut areas = [0u8; SLOTS * AREA];
-    let mut answer = [0u8; ANSWER];
-    let mut request = [0u8; REQUEST];
-    request[0] = EVENT as u8;
-    request[4] = 62;
-    kernel_step(edition, &mut *image, &mut areas, &request, &mut answer)
+    let mut areas = [0; SLOTS * AREA];
+    let mut answer = [0; ANSWER];
+    let event = request([EVENT, 62, 0, 0, 0, 0]);
+    kernel_step(edition, image, &mut areas, &event, &mut answer)
 }
 
 // What reading says of an image in an edition, and then what a step does.
 fn write_asked(rt: &impl Print, words: &str, edition: u32, image: &mut [u8]) -> io::Result<()> {
-    let reading = read(edition, &*image);
-    let verdict = reading.verdict;
-    let stepped = step_verdict(edition, &mut *image);
+    let verdict = read(edition, image).verdict;
+    let stepped = step_verdict(edition, image);
     print!(rt; "{words}{verdict}, a step {stepped}")
 }
 
 // The same in both editions. What a step leaves in edition 1 is an image in edition 2 too, so one is enough for both.
 pub(crate) fn write_whole(rt: &impl Print, name: &str, image: &mut [u8]) -> io::Result<()> {
     rt.print(name)?;
-    write_asked(rt, ": reading ", ONE_WAITS, &mut *image)?;
-    write_asked(rt, "; in edition 2 reading ", MANY_WAIT, &mut *image)?;
+    write_asked(rt, ": reading ", ONE_WAITS, image)?;
+    write_asked(rt, "; in edition 2 reading ", MANY_WAIT, image)?;
     println!(rt)
 }
 
 // The same in an edition that is none.
 fn write_edition(rt: &impl Print, name: &str, edition: u32, image: &mut [u8]) -> io::Result<()> {
     rt.print(name)?;
-    write_asked(rt, ": reading ", edition, &mut *image)?;
+    write_asked(rt, ": reading ", edition, image)?;
     println!(rt)
-}
-
-// The same of the first bytes of an image.
-fn write_first(rt: &impl Print, name: &str, image: &mut [u8], len: usize) -> io::Result<()> {
-    if image.len() < len {
-        return Ok(());
-    }
-    write_whole(rt, name, &mut image[..len])
 }
 
 // The image with a byte more.
 fn longer(image: [u8; IMAGE]) -> [u8; IMAGE + 1] {
-    let mut long = [0u8; IMAGE + 1];
-    let mut at = 0;
-    while at < IMAGE {
-        long[at] = image[at];
-        at += 1;
-    }
+    let mut long = [0; IMAGE + 1];
+    long[..IMAGE].copy_from_slice(&image);
     long
 }
 
 // The image in the old form, whose records end before the entry number.
 fn shorter(image: [u8; IMAGE]) -> [u8; OLD] {
-    let mut old = [0u8; OLD];
+    let mut old = [0; OLD];
     reform(&image, &mut old);
     old
 }
@@ -79,62 +65,51 @@ fn drawn(x: u32) -> u32 {
 }
 
 fn random() -> [u8; IMAGE] {
-    let mut bytes = [0u8; IMAGE];
+    let mut bytes = [0; IMAGE];
     let mut x = SEED;
-    let mut at = 0;
-    while at < IMAGE {
+    for byte in &mut bytes {
         x = drawn(x);
-        bytes[at] = (x % 256) as u8;
-        at += 1;
+        *byte = (x % 256) as u8;
     }
     bytes
 }
 
-fn write_part(rt: &impl Print, name: &str, long: [u8; IMAGE + 1], len: usize) -> io::Result<()> {
-    let mut image = long;
-    write_first(rt, name, &mut image, len)
-}
-
 // The image with tid 11, which stands behind tid 10 in the queue of tid 7, first and alone in the queue of another.
-fn sent_to(image: [u8; IMAGE], target: u8) -> [u8; IMAGE] {
-    let mut other = image;
-    other[10 * RECORD + PLACE] = 0;
-    other[10 * RECORD + AWAITED] = target;
-    other
+fn sent_to(mut image: [u8; IMAGE], target: u8) -> [u8; IMAGE] {
+    image[10 * RECORD + PLACE] = 0;
+    image[10 * RECORD + AWAITED] = target;
+    image
 }
 
 // Other lengths.
-pub(crate) fn write_lengths(rt: &impl Print, image: [u8; IMAGE]) -> io::Result<()> {
-    let long = longer(image);
+pub(crate) fn write_lengths(rt: &impl Print, mut image: [u8; IMAGE]) -> io::Result<()> {
+    let mut long = longer(image);
     let mut old = shorter(image);
-    write_part(rt, "no byte", long, 0)?;
-    write_part(rt, "767 bytes", long, IMAGE - 1)?;
-    write_part(rt, "769 bytes", long, IMAGE + 1)?;
+    write_whole(rt, "no byte", &mut [])?;
+    write_whole(rt, "767 bytes", &mut image[..IMAGE - 1])?;
+    write_whole(rt, "769 bytes", &mut long)?;
     write_whole(rt, "the old form", &mut old)
 }
 
 // Other bytes.
 pub(crate) fn write_wholes(rt: &impl Print, image: [u8; IMAGE]) -> io::Result<()> {
-    let mut zeros = [0u8; IMAGE];
-    let mut noise = random();
-    let mut unbroken = image;
-    let mut at_another = sent_to(image, 12);
-    let mut at_exited = sent_to(image, 5);
-    write_whole(rt, "all zero", &mut zeros)?;
-    write_whole(rt, "random bytes", &mut noise)?;
-    write_whole(rt, "the unbroken image", &mut unbroken)?;
-    write_whole(rt, "a sender at tid 12, which exists", &mut at_another)?;
-    write_whole(rt, "a sender at tid 5, which has exited", &mut at_exited)
+    for (name, mut other) in [
+        ("all zero", [0; IMAGE]),
+        ("random bytes", random()),
+        ("the unbroken image", image),
+        ("a sender at tid 12, which exists", sent_to(image, 12)),
+        ("a sender at tid 5, which has exited", sent_to(image, 5)),
+    ] {
+        write_whole(rt, name, &mut other)?;
+    }
+    Ok(())
 }
 
 // Editions that are none, which are refused before a length and before a rule.
-pub(crate) fn write_editions(rt: &impl Print, image: [u8; IMAGE]) -> io::Result<()> {
-    let mut unbroken = image;
-    let mut zeros = [0u8; IMAGE];
-    let mut short = [0u8; 1];
-    write_edition(rt, "edition 0", 0, &mut unbroken)?;
-    write_edition(rt, "edition 3", 3, &mut unbroken)?;
-    write_edition(rt, "edition 257", 257, &mut unbroken)?;
-    write_edition(rt, "edition 3, one byte", 3, &mut short)?;
-    write_edition(rt, "edition 3, all zero", 3, &mut zeros)
+pub(crate) fn write_editions(rt: &impl Print, mut image: [u8; IMAGE]) -> io::Result<()> {
+    for (name, edition) in [("edition 0", 0), ("edition 3", 3), ("edition 257", 257)] {
+        write_edition(rt, name, edition, &mut image)?;
+    }
+    write_edition(rt, "edition 3, one byte", 3, &mut [0])?;
+    write_edition(rt, "edition 3, all zero", 3, &mut [0; IMAGE])
 }

@@ -44,14 +44,14 @@ module _ (n ed : ℕ) (image out : List ℕ) where
       newest = reformed n (form_of n (length image)).bytes record_length image
 
       pub convert_bad : is_image n ed newest ≡ false → Converts bad_table out
-      convert_bad bad = refuses (sym (read_broken n ed image known from (rw bad))) (omega arith) to
+      convert_bad bad = refuses (sym (read_broken n ed image known from (rw bad (omega arith)))) (omega arith) to
 
       module _ (is : is_image n ed newest ≡ true) where
         abbrev table : Table
         table = table_of n ed newest
 
         read : read_image n ed image ≡ reading table accepted
-        read = sym (read_given n ed image known from (rw is (omega arith))) ∙ rw is
+        read = sym (read_given n ed image known from (rw is)) ∙ rw is
 
         -- it is the writing of the table that is read
         writes : {v : ℕ} {o : List ℕ} → (v ≡ write_verdict table (length out)) × (o ≡ written table out) → Converts v o

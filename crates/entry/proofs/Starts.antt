@@ -11,7 +11,7 @@ use lib.Dec.{ltb, eqb}
 use borrow.Author.Tests.{eq-eqb, ne_eqb, lt-ltb, le-ltb, ltb-true}
 use Rattle.queue.proofs.Below.{by_test}
 use Rattle.tid.specs.Sizes.{slot_count, priorities}
-use Rattle.task.specs.declared.task.Result.TheVariants.{Nothing}
+use Rattle.task.specs.declared.task.Outcome.TheVariants.{Nothing}
 use Rattle.task.specs.declared.task.State.TheVariants.{Active}
 use Rattle.task.specs.Task.{entry_of}
 use Rattle.task.proofs.Tests.{chosen}

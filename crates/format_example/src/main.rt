@@ -18,92 +18,84 @@ const SECOND: usize = RECORD;
 
 const THIRD: usize = 2 * RECORD;
 
+// A line: a name, and bytes in hex.
+fn line(rt: &impl Print, name: &str, bytes: &[u8]) -> io::Result<()> {
+    rt.print(name)?;
+    for byte in bytes {
+        print!(rt; " {byte:02x}")?;
+    }
+    println!(rt)
+}
+
+// The record of a request: its kind and its five arguments.
+fn request(words: [u32; REQUEST / 4]) -> [u8; REQUEST] {
+    let mut bytes = [0; REQUEST];
+    for (place, word) in bytes.chunks_exact_mut(4).zip(words) {
+        place.copy_from_slice(&word.to_le_bytes());
+    }
+    bytes
+}
+
 // A kernel between two calls.
-#[derive(Clone, Copy, Drop)]
+#[derive(Drop)]
 struct Host {
     image: [u8; IMAGE],
     areas: [u8; AREAS],
 }
 
-// A line: a name, and the bytes from one place up to another in hex.
-fn line(rt: &impl Print, name: &str, bytes: &[u8], start: usize, end: usize) -> io::Result<()> {
-    rt.print(name)?;
-    let mut at = start;
-    while at < end {
-        if at < bytes.len() {
-            let byte = bytes[at];
-            print!(rt; " {byte:02x}")?;
+impl Host {
+    fn started() -> Host {
+        let mut image = [0; IMAGE];
+        kernel_start(ONE_WAITS, 16, 7, &mut image);
+        Host {
+            image,
+            areas: [0; AREAS],
         }
-        at += 1;
     }
-    println!(rt)
-}
 
-fn first(rt: &impl Print, host: Host) -> io::Result<()> {
-    let image = host.image;
-    line(rt, "tid 1  ", &image, 0, SECOND)
-}
-
-fn second(rt: &impl Print, host: Host) -> io::Result<()> {
-    let image = host.image;
-    line(rt, "tid 2  ", &image, SECOND, THIRD)
-}
-
-// The first bytes of tid 2's area.
-fn received(rt: &impl Print, host: Host) -> io::Result<()> {
-    let areas = host.areas;
-    line(rt, "area 2 ", &areas, AREA, AREA + 6)
-}
-
-fn started() -> Host {
-    let mut image = [0u8; IMAGE];
-    kernel_start(ONE_WAITS, 16, 7, &mut image);
-    Host {
-        image,
-        areas: [0; AREAS],
+    fn first(&self, rt: &impl Print) -> io::Result<()> {
+        line(rt, "tid 1  ", &self.image[..SECOND])
     }
-}
 
-// A request whose numbers are all below 256.
-fn request(kind: u8, a: u8, b: u8, c: u8, d: u8, e: u8) -> [u8; REQUEST] {
-    [
-        kind, 0, 0, 0, a, 0, 0, 0, b, 0, 0, 0, c, 0, 0, 0, d, 0, 0, 0, e, 0, 0, 0,
-    ]
-}
+    fn second(&self, rt: &impl Print) -> io::Result<()> {
+        line(rt, "tid 2  ", &self.image[SECOND..THIRD])
+    }
 
-// The entry number's bytes differ, so that their order is seen.
-fn create() -> [u8; REQUEST] {
-    let mut bytes = request(CREATE as u8, 8, 1, 0, 0, 0);
-    bytes[9] = 2;
-    bytes[10] = 3;
-    bytes[11] = 4;
-    bytes
-}
+    // The first bytes of tid 2's area.
+    fn received(&self, rt: &impl Print) -> io::Result<()> {
+        line(rt, "area 2 ", &self.areas[AREA..AREA + 6])
+    }
 
-// A request, and its answer.
-fn asked(rt: &impl Print, host: Host, request: [u8; REQUEST]) -> io::Result<Host> {
-    let mut image = host.image;
-    let mut areas = host.areas;
-    let mut answer = [0u8; ANSWER];
-    line(rt, "request", &request, 0, REQUEST)?;
-    kernel_step(ONE_WAITS, &mut image, &mut areas, &request, &mut answer);
-    line(rt, "answer ", &answer, 0, ANSWER)?;
-    Ok(Host { image, areas })
+    // A request, and its answer.
+    fn ask(&mut self, rt: &impl Print, request: [u8; REQUEST]) -> io::Result<()> {
+        let mut answer = [0; ANSWER];
+        line(rt, "request", &request)?;
+        kernel_step(
+            ONE_WAITS,
+            &mut self.image,
+            &mut self.areas,
+            &request,
+            &mut answer,
+        );
+        line(rt, "answer ", &answer)
+    }
 }
 
 fn main(rt: HostRuntime) -> io::Result<()> {
-    let fresh = started();
-    first(&rt, fresh)?;
-    let created = asked(&rt, fresh, create())?;
-    first(&rt, created)?;
-    second(&rt, created)?;
-    let waiting = asked(&rt, created, request(RECEIVE as u8, 0, 4, 0, 0, 0))?;
-    second(&rt, waiting)?;
-    let written = asked(&rt, waiting, request(OWN_WRITE as u8, 10, 65, 0, 0, 0))?;
-    let sent = asked(&rt, written, request(SEND as u8, 2, 10, 6, 20, 1))?;
-    first(&rt, sent)?;
-    second(&rt, sent)?;
-    received(&rt, sent)?;
-    let replied = asked(&rt, sent, request(REPLY as u8, 1, 0, 3, 0, 0))?;
-    first(&rt, replied)
+    let mut host = Host::started();
+    host.first(&rt)?;
+    // The entry number's bytes differ, so that their order is seen.
+    let entry = u32::from_le_bytes([1, 2, 3, 4]);
+    host.ask(&rt, request([CREATE, 8, entry, 0, 0, 0]))?;
+    host.first(&rt)?;
+    host.second(&rt)?;
+    host.ask(&rt, request([RECEIVE, 0, 4, 0, 0, 0]))?;
+    host.second(&rt)?;
+    host.ask(&rt, request([OWN_WRITE, 10, 65, 0, 0, 0]))?;
+    host.ask(&rt, request([SEND, 2, 10, 6, 20, 1]))?;
+    host.first(&rt)?;
+    host.second(&rt)?;
+    host.received(&rt)?;
+    host.ask(&rt, request([REPLY, 1, 0, 3, 0, 0]))?;
+    host.first(&rt)
 }

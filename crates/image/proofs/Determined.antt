@@ -1,7 +1,11 @@
 -- Each public function's own promise leaves no choice: see `Determines` in tid/specs/Determined.antt. The bytes that are lent
 -- to be written are part of the result: of the parameters at exit, s.0, s.1.0 and so on, the last.
-use Rattle.std.proofs.Common.{refl}
+use Rattle.std.proofs.Common.{◌≡◌, Ok, Err, ap, sym, refl}
+use Rattle.std.specs.Prelude.{Result}
 use mathlib.Core.Path.{◌∙⁻¹◌}
+use Rattle.kernel.specs.declared.refusal.Refusal.{Refusal}
+use Rattle.kernel.specs.Verdict.{verdict_of}
+use Rattle.kernel.proofs.Verdicts.{number_none, number_apart}
 use Rattle.tid.specs.Determined.{Determines, DeterminesResult}
 use Rattle.image.proofs.stored.read.Reads as read
 use Rattle.image.proofs.stored.write.Reads as write
@@ -16,14 +20,21 @@ use Rattle.image.proofs.words.short.Reads as short
 use Rattle.image.proofs.fields.result_of.Reads as result_of
 use Rattle.image.proofs.fields.fields_of.Reads as fields_of
 
+-- a verdict tells the refusal, or that there is none
+verdict_apart : (done done' : Result (Unit {0}) Refusal) → verdict_of done ≡ verdict_of done' → done ≡ done'
+verdict_apart (Ok u) (Ok u') e = refl
+verdict_apart (Ok u) (Err e') e = absurd (number_none e' e)
+verdict_apart (Err f) (Ok u) e = absurd (number_none f (sym e))
+verdict_apart (Err f) (Err f') e = ap Err (number_apart e)
+
 read_determined : (κs : _) (a : _) → DeterminesResult (read.Post κs a)
 read_determined κs a r r' s s' p p' = (p ∙⁻¹ p', refl)
 
 write_determined : (κs : _) (a : _) → Determines (write.Post κs a) (λ s. s.1.0.now)
-write_determined κs a r r' s s' p p' = (p.0 ∙⁻¹ p'.0, p.1 ∙⁻¹ p'.1)
+write_determined κs a r r' s s' p p' = (verdict_apart r r' (p.0 ∙⁻¹ p'.0), p.1 ∙⁻¹ p'.1)
 
 convert_determined : (κs : _) (a : _) → Determines (convert.Post κs a) (λ s. s.1.1.0.now)
-convert_determined κs a r r' s s' p p' = (p.0 ∙⁻¹ p'.0, p.1 ∙⁻¹ p'.1)
+convert_determined κs a r r' s s' p p' = (verdict_apart r r' (p.0 ∙⁻¹ p'.0), p.1 ∙⁻¹ p'.1)
 
 form_at_determined : (κs : _) (a : _) → DeterminesResult (form_at.Post κs a)
 form_at_determined κs a r r' s s' p p' = (p ∙⁻¹ p', refl)

@@ -1,6 +1,9 @@
 -- What a length tells of its form, and an image of any form as the newest.
-use Rattle.std.proofs.Common.{◌≡◌, ℕ, ◌*◌, ◌<◌, ◌≤◌, true, false, eqb, List, length, get_or, sym, refl, ◌∙◌, arith, ltb-true, le-ltb, lt-ltb, eq-eqb, ne_eqb, eqb-true}
+use Rattle.std.proofs.Common.{◌≡◌, ℕ, ◌*◌, ◌<◌, ◌≤◌, Bool, ap, true, false, eqb, List, length, get_or, sym, refl, ◌∙◌, arith, ltb-true, eq-eqb, ne_eqb, eqb-true}
+use mathlib.Core.Bool.{not, true≢false}
 use lib.ListN.{get_or-eq_default}
+use Rattle.std.specs.Prelude.{Option, unwrap_or, is_some}
+use Rattle.std.proofs.Common.{Some, None}
 use Rattle.queue.specs.Choose.{choose}
 use Rattle.queue.proofs.Below.{by_test, all_below_lem, below_all, first_below_lem, first_ends}
 use Rattle.task.specs.declared.task.Task.{Task}
@@ -11,7 +14,7 @@ use Rattle.kernel.specs.Table.{slots, task_at}
 use Rattle.image.specs.Bytes.{record_at}
 use Rattle.image.specs.Record.{record_length, at_entry, task_record, record_of, used_from, task_from, byte_in, at_state}
 use Rattle.image.specs.declared.form.Form.{Form}
-use Rattle.image.specs.Form.{form_count, form_at, image_length, form_for, is_form, form_of, fitted, reformed, reformed_into, holds}
+use Rattle.image.specs.Form.{form_count, form_at, image_length, form_for, is_form, form_of, form_found, fitted, reformed, reformed_into, holds}
 use Rattle.image.specs.Image.{image_of, table_of}
 use Rattle.image.proofs.Record.{length_record_of}
 use Rattle.image.proofs.Bytes.{length_in_order}
@@ -38,12 +41,24 @@ module _ (n len : ℕ) where
   pub form_within : (form_of n len).bytes ≤ record_length
   form_within = chosen (λ (f : Form). f.bytes ≤ record_length) (eqb (form_for n len) 0) (λ _. omega arith) (λ _. omega arith)
 
--- whether a length is a form's, by the number that was found for it
-pub is_form_lem : (n len k : ℕ) → k ≡ form_for n len → k < form_count → is_form n len ≡ true
-is_form_lem n len k found h = lt-ltb (form_for n len) form_count (rw found at h)
+-- whether a length is a form's, by the form that was found or missed
 
-pub no_form : (n len k : ℕ) → k ≡ form_for n len → form_count ≤ k → is_form n len ≡ false
-no_form n len k found h = le-ltb (form_for n len) form_count (rw found at h)
+some_of : (b : Bool) (g f : Form) → Some f ≡ choose b (Some g) None → (b ≡ true) × (f ≡ g)
+some_of true g f e = (refl, ap (λ (o : Option Form). unwrap_or o g) e)
+some_of false g f e = absurd (true≢false (ap (λ (o : Option Form). is_some o) e))
+
+told : (b : Bool) (g : Form) → is_some (choose b (Some g) None) ≡ b
+told true g = refl
+told false g = refl
+
+pub some_form : (n len : ℕ) (f : Form) → Some f ≡ form_found n len → (is_form n len ≡ true) × (f ≡ form_of n len)
+some_form n len f e = some_of (is_form n len) (form_of n len) f e
+
+pub none_form : (n len : ℕ) → None ≡ form_found n len → is_form n len ≡ false
+none_form n len e = sym (ap (λ (o : Option Form). is_some o) e ∙ told (is_form n len) (form_of n len))
+
+pub form_asked : (n len : ℕ) (none : Bool) {o : Option Form} → o ≡ form_found n len → is_some o ≡ not none → is_form n len ≡ not none
+form_asked n len none e t = sym (ap (λ (o : Option Form). is_some o) e ∙ told (is_form n len) (form_of n len)) ∙ t
 
 -- the newest form by its length
 pub newest_form : (n : ℕ) → 1 ≤ n → form_for n (n * record_length) ≡ 1

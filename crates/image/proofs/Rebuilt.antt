@@ -5,8 +5,8 @@ use native.Mathlib.Decide.{ℕ_discrete}
 use lib.ListN.{get_or-replicate}
 use Rattle.queue.specs.Choose.{choose}
 use Rattle.queue.proofs.Below.{both_true, true_both, by_test, same_test, all_below_lem, below_all}
-use Rattle.task.specs.declared.task.Result.{Result}
-use Rattle.task.specs.declared.task.Result.TheVariants.{Nothing, Fault}
+use Rattle.task.specs.declared.task.Outcome.{Outcome}
+use Rattle.task.specs.declared.task.Outcome.TheVariants.{Nothing, Fault}
 use Rattle.task.specs.declared.task.State.{State}
 use Rattle.task.specs.Task.{state_code, message_of, reply_of, is_used, is_ready, is_receive_blocked, is_event_blocked}
 use Rattle.task.specs.declared.task.Task.{Task}
@@ -143,7 +143,7 @@ module _ (r : List ℕ) (size : length r ≡ record_length) (small : Bytes r) wh
 
   word_fits : result_word (result_of (result_parts_in r)) < 256 ^ 4
   word_fits =
-      let Small : Result → Type 0 = λ o. result_word o < 256 ^ 4 in
+      let Small : Outcome → Type 0 = λ o. result_word o < 256 ^ 4 in
       let word = (result_parts_in r).word in
       let fault : Small (Fault (negated word)) = omega arith in
       let none : Small Nothing = omega arith in

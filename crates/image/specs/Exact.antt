@@ -3,9 +3,8 @@
 use Rattle.std.specs.Prelude.{ℕ, Bool, ◌&&◌, ◌||◌, List, ◌==◌, nat_eq, slice_index}
 use Rattle.queue.specs.Choose.{choose, all_below}
 use Rattle.kernel.specs.declared.table.Table.{Table}
-use Rattle.kernel.specs.Table.{active_slot}
 use Rattle.rules.specs.declared.Checked.{Checked}
-use Rattle.rules.specs.Check.{good_placed}
+use Rattle.rules.specs.Check.{active_in, good_placed}
 use Rattle.image.specs.declared.fields.Parts.{Parts}
 use Rattle.image.specs.declared.fields.ResultParts.{ResultParts}
 use Rattle.image.specs.declared.fields.Stated.{Stated}
@@ -65,4 +64,4 @@ decoded_of n ed bytes = record { table = table_of n ed bytes; exact = exact_up_t
 
 -- what is asked of the table that was read: whether each task stands at the place that its record gives, and which slot is active
 abbrev pub checked_placed : Table → List ℕ → Checked
-checked_placed t bytes = record { good = good_placed t (place_read bytes); active = active_slot t }
+checked_placed t bytes = record { good = good_placed t (place_read bytes); active = active_in t }

@@ -1,7 +1,8 @@
 -- The forms of stored records. A form is a row: for how many slots it has records, how many bytes a record has, and whether a record holds
 -- an entry number. Every rule is asked of the newest form; another is read as the newest with 0 in what it lacks, and is written from the
 -- newest without what it lacks.
-use Rattle.std.specs.Prelude.{ℕ, ◌*◌, Bool, true, false, ◌&&◌, ◌||◌, List, ◌++◌, length, take, replicate, ◌==◌, nat_eq, nat_lt}
+use Rattle.std.specs.Prelude.{ℕ, ◌*◌, Bool, Option, true, false, ◌&&◌, ◌||◌, List, ◌++◌, length, take, replicate, ◌==◌, nat_eq, nat_lt}
+use Rattle.std.proofs.Common.{Some, None}
 use Rattle.queue.specs.Choose.{choose, all_below, first_below}
 use Rattle.kernel.specs.declared.table.Table.{Table}
 use Rattle.kernel.specs.Table.{slots, task_at}
@@ -34,6 +35,10 @@ is_form n len = nat_lt (form_for n len) form_count
 
 abbrev pub form_of : ℕ → ℕ → Form
 form_of n len = form_at n (form_for n len)
+
+-- both in one
+abbrev pub form_found : ℕ → ℕ → Option Form
+form_found n len = choose (is_form n len) (Some (form_of n len)) None
 
 -- a record with w bytes: cut off, or filled up with 0
 abbrev pub fitted : ℕ → List ℕ → List ℕ

@@ -25,6 +25,7 @@ const SENDER: usize = 16;
 const CUT: usize = 20;
 
 // The request of a record: its kind and its five arguments. A record of another length asks nothing.
+#[tactic(auto, unfolding(crate::specs::Call::request_from))]
 pub fn request_from(bytes: &[u8]) -> Request
     ensures { result ≡ request_from bytes.now }
 {
@@ -53,13 +54,12 @@ pub fn put_answer(answer: Answer, out: &mut [u8])
     ensures { out.new ≡ answered answer out.old }
 {
     if out.len() == ANSWER {
-        let result = answer.result;
-        let numbers = result_parts_of(result);
-        put_word(&mut *out, VERDICT, answer.verdict as u32);
-        put_word(&mut *out, NEXT, answer.next as u32);
-        put_word(&mut *out, KIND, numbers.kind as u32);
-        put_word(&mut *out, VALUE, numbers.word);
-        put_word(&mut *out, SENDER, numbers.from as u32);
-        put_word(&mut *out, CUT, numbers.cut as u32);
+        let numbers = result_parts_of(answer.result);
+        put_word(out, VERDICT, answer.verdict as u32);
+        put_word(out, NEXT, answer.next as u32);
+        put_word(out, KIND, numbers.kind as u32);
+        put_word(out, VALUE, numbers.word);
+        put_word(out, SENDER, numbers.from as u32);
+        put_word(out, CUT, numbers.cut as u32);
     }
 }

@@ -1,18 +1,16 @@
 // The record of a task: its fields, and the task that they give.
-ghost use Rattle.std.specs.Prelude.{◌≡◌, ◌+◌, ◌≤◌, ◌&&◌, length, ◌==◌, nat_eq, slice_index};
-ghost use Rattle.queue.specs.Choose.{all_below};
-ghost use Rattle.task.specs.Task.{no_task};
+ghost use Rattle.std.specs.Prelude.{◌≡◌, ◌+◌, ◌≤◌, ◌&&◌, length, ◌==◌};
 ghost use Rattle.image.specs.ResultParts.{result_parts_of};
 ghost use Rattle.image.specs.Record.{record_length, plain_parts, parts_of, fields, task_record, buffer_in, parts_in, result_parts_in, result_of};
 ghost use Rattle.image.specs.Exact.{same_result_parts, stated_from, task_read};
 
 use crate::words::{short_in, word_in};
+use queue::all_zero;
 use task::parts::{
     ACTIVE, EVENT_BLOCKED, EXITED, READY, RECEIVE_BLOCKED, REPLY_BLOCKED, SEND_BLOCKED, UNUSED,
-    state_code,
 };
 use task::result::bit;
-use task::task::{Buffer, Result, State, Task};
+use task::task::{Buffer, Outcome, State, Task};
 
 // A record's length, and where its fields start.
 pub const RECORD: usize = 24;
@@ -61,27 +59,27 @@ pub struct ResultParts {
     pub word: u32,
 }
 
-pub(crate) fn result_parts_of(res: Result) -> ResultParts
+pub(crate) fn result_parts_of(res: Outcome) -> ResultParts
     ensures { result ≡ result_parts_of res }
 {
     match res {
-        Result::Nothing => ResultParts {
+        Outcome::Nothing => ResultParts {
             kind: NOTHING,
             from: 0,
             cut: 0,
             word: 0,
         },
-        Result::Value { from, cut, value } => ResultParts {
+        Outcome::Value { from, cut, value } => ResultParts {
             kind: VALUE,
             from,
             cut: bit(cut),
             word: value,
         },
-        Result::Fault(f) => ResultParts {
+        Outcome::Fault(f) => ResultParts {
             kind: FAULT,
             from: 0,
             cut: 0,
-            word: std::num::wrapping_sub_u32(0, f as u32),
+            word: 0u32.wrapping_sub(u32::from(f)),
         },
     }
 }
@@ -102,8 +100,8 @@ fn plain(code: u8) -> Parts
     Parts {
         code,
         awaited: 0,
-        message: Buffer { start: 0, len: 0 },
-        reply: Buffer { start: 0, len: 0 },
+        message: Buffer::EMPTY,
+        reply: Buffer::EMPTY,
     }
 }
 
@@ -115,10 +113,8 @@ fn parts_of(state: State) -> Parts
         State::Active => plain(ACTIVE),
         State::Ready => plain(READY),
         State::SendBlocked(message) => Parts {
-            code: SEND_BLOCKED,
-            awaited: 0,
             message,
-            reply: Buffer { start: 0, len: 0 },
+            ..plain(SEND_BLOCKED)
         },
         State::ReceiveBlocked {
             target,
@@ -131,16 +127,12 @@ fn parts_of(state: State) -> Parts
             reply,
         },
         State::ReplyBlocked(reply) => Parts {
-            code: REPLY_BLOCKED,
-            awaited: 0,
-            message: Buffer { start: 0, len: 0 },
             reply,
+            ..plain(REPLY_BLOCKED)
         },
         State::EventBlocked(event) => Parts {
-            code: EVENT_BLOCKED,
             awaited: event,
-            message: Buffer { start: 0, len: 0 },
-            reply: Buffer { start: 0, len: 0 },
+            ..plain(EVENT_BLOCKED)
         },
         State::Exited => plain(EXITED),
     }
@@ -156,8 +148,7 @@ fn buffer_in(r: &[u8], at: usize) -> Buffer
     }
 }
 
-fn parts_in(r: &[u8]) -> Parts
-    requires { length r.now ≡ record_length }
+fn parts_in(r: &[u8; RECORD]) -> Parts
     ensures { result ≡ parts_in r.now }
 {
     Parts {
@@ -168,8 +159,7 @@ fn parts_in(r: &[u8]) -> Parts
     }
 }
 
-fn result_parts_in(r: &[u8]) -> ResultParts
-    requires { length r.now ≡ record_length }
+fn result_parts_in(r: &[u8; RECORD]) -> ResultParts
     ensures { result ≡ result_parts_in r.now }
 {
     ResultParts {
@@ -180,30 +170,20 @@ fn result_parts_in(r: &[u8]) -> ResultParts
     }
 }
 
-pub fn result_of(numbers: ResultParts) -> Result
+pub fn result_of(numbers: ResultParts) -> Outcome
     ensures { result ≡ result_of numbers }
 {
-    let from = numbers.from;
-    let word = numbers.word;
-    if numbers.kind == VALUE {
-        return Result::Value {
-            from,
+    match numbers.kind {
+        VALUE => Outcome::Value {
+            from: numbers.from,
             cut: numbers.cut == 1,
-            value: word,
-        };
-    }
-    if numbers.kind == FAULT {
-        if MINUS_ONE - 3 < word {
-            return Result::Fault((MINUS_ONE - word) as u8 + 1);
+            value: numbers.word,
+        },
+        FAULT if MINUS_ONE - 3 < numbers.word => {
+            Outcome::Fault((MINUS_ONE - numbers.word) as u8 + 1)
         }
+        _ => Outcome::Nothing,
     }
-    Result::Nothing
-}
-
-fn no_buffer(b: Buffer) -> bool
-    ensures { result ≡ (b.start == 0 && b.len == 0) }
-{
-    (b.start == 0) & (b.len == 0)
 }
 
 // The state that parts give, and whether they and the place are those of a task in it: the code is a state's, and what that state does not
@@ -223,20 +203,22 @@ fn read_as(state: State, exact: bool) -> Stated
 fn stated_from(parts: Parts, place: u8) -> Stated
     ensures { result ≡ stated_from parts place }
 {
-    let code = parts.code;
-    let awaited = parts.awaited;
-    let message = parts.message;
-    let reply = parts.reply;
+    let Parts {
+        code,
+        awaited,
+        message,
+        reply,
+    } = parts;
     let none = awaited == 0;
     let unplaced = place == 0;
-    let bare = none & no_buffer(message) & no_buffer(reply);
+    let bare = none & (message == Buffer::EMPTY) & (reply == Buffer::EMPTY);
     match code {
         UNUSED => read_as(State::Unused, bare & unplaced),
         ACTIVE => read_as(State::Active, bare & unplaced),
         READY => read_as(State::Ready, bare),
         SEND_BLOCKED => read_as(
             State::SendBlocked(message),
-            none & no_buffer(reply) & unplaced,
+            none & (reply == Buffer::EMPTY) & unplaced,
         ),
         RECEIVE_BLOCKED => read_as(
             State::ReceiveBlocked {
@@ -248,11 +230,11 @@ fn stated_from(parts: Parts, place: u8) -> Stated
         ),
         REPLY_BLOCKED => read_as(
             State::ReplyBlocked(reply),
-            none & no_buffer(message) & unplaced,
+            none & (message == Buffer::EMPTY) & unplaced,
         ),
         EVENT_BLOCKED => read_as(
             State::EventBlocked(awaited),
-            no_buffer(message) & no_buffer(reply),
+            (message == Buffer::EMPTY) & (reply == Buffer::EMPTY),
         ),
         EXITED => read_as(State::Exited, bare & unplaced),
         _ => read_as(State::Unused, false),
@@ -263,39 +245,11 @@ fn stated_from(parts: Parts, place: u8) -> Stated
 fn exact_result(t: ResultParts) -> bool
     ensures { result ≡ same_result_parts (result_parts_of (result_of t)) t }
 {
-    let kind = t.kind;
-    if kind == NOTHING {
-        return (t.word == 0) & (t.from == 0) & (t.cut == 0);
-    }
-    if kind == VALUE {
-        return t.cut <= 1;
-    }
-    (kind == FAULT) & (MINUS_ONE - 3 < t.word) & (t.from == 0) & (t.cut == 0)
-}
-
-// Whether a record is all zero. No byte is skipped once one fails, so that the compiler may look at many at once.
-fn blank(r: &[u8]) -> bool
-    requires { length r.now ≡ record_length }
-    ensures { result ≡ all_below record_length (λ i. nat_eq (slice_index r.now i) 0) }
-{
-    let mut blank = true;
-    let mut i = 0;
-    while i < RECORD {
-        blank &= r[i] == 0;
-        i += 1;
-    }
-    blank
-}
-
-fn no_task() -> Task
-    ensures { result ≡ no_task }
-{
-    Task {
-        state: State::Unused,
-        priority: 0,
-        parent: 0,
-        entry: 0,
-        result: Result::Nothing,
+    match t.kind {
+        NOTHING => (t.word == 0) & (t.from == 0) & (t.cut == 0),
+        VALUE => t.cut <= 1,
+        FAULT => (MINUS_ONE - 3 < t.word) & (t.from == 0) & (t.cut == 0),
+        _ => false,
     }
 }
 
@@ -306,44 +260,41 @@ pub(crate) struct TaskRead {
     pub exact: bool,
 }
 
-pub(crate) fn task_read(r: &[u8]) -> TaskRead
-    requires { length r.now ≡ record_length }
+pub(crate) fn task_read(r: &[u8; RECORD]) -> TaskRead
     ensures { result ≡ task_read r.now }
 {
     if r[STATE] == UNUSED {
         return TaskRead {
-            task: no_task(),
-            exact: blank(r),
+            task: Task::UNUSED,
+            exact: all_zero(r),
         };
     }
-    let parts = parts_in(r);
+    let stated = stated_from(parts_in(r), r[PLACE]);
     let numbers = result_parts_in(r);
-    let stated = stated_from(parts, r[PLACE]);
-    let state = stated.state;
-    let result = result_of(numbers);
-    let task = Task {
-        state,
-        priority: r[PRIORITY],
-        parent: r[PARENT],
-        entry: word_in(r, ENTRY),
-        result,
-    };
-    let exact = stated.exact & exact_result(numbers);
-    TaskRead { task, exact }
+    TaskRead {
+        task: Task {
+            state: stated.state,
+            priority: r[PRIORITY],
+            parent: r[PARENT],
+            entry: word_in(r, ENTRY),
+            result: result_of(numbers),
+        },
+        exact: stated.exact & exact_result(numbers),
+    }
 }
 
 // The fields of a task and its place, in their order.
 pub fn fields_of(x: Task, place: u8) -> [u8; RECORD]
     ensures { result ≡ fields x place }
 {
-    let state = x.state;
-    let result = x.result;
-    let parts = parts_of(state);
-    let numbers = result_parts_of(result);
-    let m = parts.message;
-    let r = parts.reply;
-    let w = numbers.word;
-    let e = x.entry;
+    let parts = parts_of(x.state);
+    let numbers = result_parts_of(x.result);
+    let [m0, m1, _, _] = parts.message.start.to_le_bytes();
+    let [m2, m3, _, _] = parts.message.len.to_le_bytes();
+    let [r0, r1, _, _] = parts.reply.start.to_le_bytes();
+    let [r2, r3, _, _] = parts.reply.len.to_le_bytes();
+    let [w0, w1, w2, w3] = numbers.word.to_le_bytes();
+    let [e0, e1, e2, e3] = x.entry.to_le_bytes();
     [
         parts.code,
         x.priority,
@@ -351,34 +302,34 @@ pub fn fields_of(x: Task, place: u8) -> [u8; RECORD]
         place,
         parts.awaited,
         numbers.kind,
-        (m.start % 256) as u8,
-        (m.start / 256 % 256) as u8,
-        (m.len % 256) as u8,
-        (m.len / 256 % 256) as u8,
-        (r.start % 256) as u8,
-        (r.start / 256 % 256) as u8,
-        (r.len % 256) as u8,
-        (r.len / 256 % 256) as u8,
+        m0,
+        m1,
+        m2,
+        m3,
+        r0,
+        r1,
+        r2,
+        r3,
         numbers.from,
         numbers.cut,
-        (w % 256) as u8,
-        (w / 256 % 256) as u8,
-        (w / 256 / 256 % 256) as u8,
-        (w / 256 / 256 / 256 % 256) as u8,
-        (e % 256) as u8,
-        (e / 256 % 256) as u8,
-        (e / 256 / 256 % 256) as u8,
-        (e / 256 / 256 / 256 % 256) as u8,
+        w0,
+        w1,
+        w2,
+        w3,
+        e0,
+        e1,
+        e2,
+        e3,
     ]
 }
 
 // The record of a task and its place; that of an unused slot is all zero.
+#[tactic(auto, unfolding(crate::specs::Record::task_record))]
 pub(crate) fn record_of(x: Task, place: u8) -> [u8; RECORD]
     ensures { result ≡ task_record x place }
 {
-    let state = x.state;
-    if state_code(state) == UNUSED {
-        return [0; RECORD];
+    match x.state {
+        State::Unused => [0; RECORD],
+        _ => fields_of(x, place),
     }
-    fields_of(x, place)
 }

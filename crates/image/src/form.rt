@@ -2,7 +2,7 @@
 ghost use Rattle.std.specs.Prelude.{◌≡◌, ◌+◌, ◌*◌, ◌≤◌, length, slice_index};
 ghost use Rattle.std.proofs.Math.Seq.{paste};
 ghost use Rattle.tid.specs.Sizes.{slot_count};
-ghost use Rattle.image.specs.Form.{form_at, form_for, fitted, reformed, reformed_into};
+ghost use Rattle.image.specs.Form.{form_at, form_found, fitted, reformed, reformed_into};
 
 use crate::fields::RECORD;
 use tid::sizes::SLOTS;
@@ -15,52 +15,45 @@ pub struct Form {
     pub entries: bool,
 }
 
-// How many forms there are.
-pub const FORMS: usize = 2;
-
 // The forms, the oldest first; the last is the newest.
-pub fn form_at(k: usize) -> Form
-    ensures { result ≡ form_at slot_count k }
-{
-    if k == 0 {
-        return Form {
-            slots: SLOTS,
-            bytes: 20,
-            entries: false,
-        };
-    }
+pub const FORMS: [Form; 2] = [
+    Form {
+        slots: SLOTS,
+        bytes: 20,
+        entries: false,
+    },
     Form {
         slots: SLOTS,
         bytes: RECORD,
         entries: true,
-    }
+    },
+];
+
+// Form k; past the last it is the newest.
+pub fn form_at(k: usize) -> Form
+    ensures { result ≡ form_at slot_count k }
+{
+    FORMS[k.min(FORMS.len() - 1)]
 }
 
-// Which form has so many bytes; FORMS where none has.
-pub fn form_for(len: usize) -> usize
-    ensures { result ≡ form_for slot_count len }
+// The form whose images have so many bytes.
+pub fn form_for(len: usize) -> Option<Form>
+    ensures { result ≡ form_found slot_count len }
 {
-    let mut k = 0;
-    loop {
-        if k == FORMS {
-            break FORMS;
+    for k in 0..FORMS.len() {
+        let form = form_at(k);
+        if len == form.slots * form.bytes {
+            return Some(form);
         }
-        let f = form_at(k);
-        if len == f.slots * f.bytes {
-            break k;
-        }
-        k += 1;
     }
+    None
 }
 
 // A byte of a record; 0 behind its end.
 fn byte_or_zero(r: &[u8], i: usize) -> u8
     ensures { result ≡ slice_index r.now i }
 {
-    if i < r.len() {
-        return r[i];
-    }
-    0
+    if i < r.len() { r[i] } else { 0 }
 }
 
 // A record put into an image with `to` bytes: cut off, or filled up with 0.
@@ -68,10 +61,8 @@ fn put_fitted(out: &mut [u8], at: usize, to: usize, r: &[u8])
     requires { at + to ≤ length out.old }
     ensures { out.new ≡ paste out.old at (fitted to r.now) to }
 {
-    let mut i = 0;
-    while i < to {
+    for i in 0..to {
         out[at + i] = byte_or_zero(r, i);
-        i += 1;
     }
 }
 
@@ -80,11 +71,9 @@ fn put_records(image: &[u8], from: usize, out: &mut [u8], to: usize)
     requires { (length image.now ≡ slot_count * from) × (length out.old ≡ slot_count * to) }
     ensures { out.new ≡ reformed slot_count from to image.now }
 {
-    let mut s = 0;
-    while s < SLOTS {
+    for s in 0..SLOTS {
         let at = s * from;
-        put_fitted(&mut *out, s * to, to, &image[at..at + from]);
-        s += 1;
+        put_fitted(out, s * to, to, &image[at..at + from]);
     }
 }
 
@@ -92,15 +81,11 @@ fn put_records(image: &[u8], from: usize, out: &mut [u8], to: usize)
 pub fn reform(image: &[u8], out: &mut [u8])
     ensures { out.new ≡ reformed_into slot_count image.now out.old }
 {
-    let from = form_for(image.len());
-    let to = form_for(out.len());
-    if FORMS <= from {
+    let Some(old) = form_for(image.len()) else {
         return;
-    }
-    if FORMS <= to {
+    };
+    let Some(new) = form_for(out.len()) else {
         return;
-    }
-    let old = form_at(from);
-    let new = form_at(to);
-    put_records(image, old.bytes, &mut *out, new.bytes);
+    };
+    put_records(image, old.bytes, out, new.bytes);
 }

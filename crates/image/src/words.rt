@@ -7,14 +7,14 @@ ghost use Rattle.image.specs.Bytes.{bytes_of, number_in};
 pub fn short(low: u8, high: u8) -> u32
     ensures { result ≡ low + 256 * high }
 {
-    low as u32 + 256 * high as u32
+    u32::from(u16::from_le_bytes([low, high]))
 }
 
 // The number of four bytes.
 pub fn word(b0: u8, b1: u8, b2: u8, b3: u8) -> u32
     ensures { result ≡ b0 + 256 * (b1 + 256 * (b2 + 256 * b3)) }
 {
-    b0 as u32 + 256 * (b1 as u32 + 256 * (b2 as u32 + 256 * b3 as u32))
+    u32::from_le_bytes([b0, b1, b2, b3])
 }
 
 // The same of bytes in a row.
@@ -37,8 +37,9 @@ pub(crate) fn put_word(out: &mut [u8], at: usize, x: u32)
     requires { at + 4 ≤ length out.old }
     ensures { out.new ≡ paste out.old at (bytes_of 4 x) 4 }
 {
-    out[at] = (x % 256) as u8;
-    out[at + 1] = (x / 256 % 256) as u8;
-    out[at + 2] = (x / 256 / 256 % 256) as u8;
-    out[at + 3] = (x / 256 / 256 / 256 % 256) as u8;
+    let [b0, b1, b2, b3] = x.to_le_bytes();
+    out[at] = b0;
+    out[at + 1] = b1;
+    out[at + 2] = b2;
+    out[at + 3] = b3;
 }

@@ -6,20 +6,26 @@ use mathlib.Core.Bool.{true, false}
 use mathlib.Core.List.{List}
 use native.Mathlib.Omega.{arith}
 use lib.ListN.{length}
-use borrow.Author.Tests.{eq-eqb, ne_eqb, eqb-true, lt-ltb, le-ltb}
+use borrow.Author.Tests.{eq-eqb, ne_eqb, eqb-true, lt-ltb}
 use Rattle.tid.specs.Tid.{tid_of}
-use Rattle.task.specs.declared.task.Result.TheVariants.{Nothing}
+use Rattle.task.specs.declared.task.Outcome.TheVariants.{Nothing}
 use Rattle.kernel.specs.declared.table.Table.{Table}
 use Rattle.kernel.specs.declared.table.Effect.{Effect}
 use Rattle.kernel.specs.declared.table.Effect.TheVariants.{Keep, Put}
 use Rattle.kernel.specs.declared.table.Request.{Request}
-use Rattle.kernel.specs.Numbers.{own_write_kind, accepted, bad_table, bad_image}
+use Rattle.std.proofs.Common.{Ok}
+use Rattle.kernel.specs.Numbers.{accepted, bad_table, bad_image}
 use Rattle.kernel.specs.Table.{slots, used_slots, active_slot}
 use Rattle.kernel.specs.Moves.{dispatched}
 use Rattle.kernel.specs.Turn.{settled}
 use Rattle.kernel.specs.Kinds.{place_in}
 use Rattle.kernel.specs.Refusal.{refusal_of}
-use Rattle.kernel.specs.Decide.{shown_tid, refused, turn_of, own_write, decide_at, decide}
+use Rattle.kernel.specs.declared.call.Entry.{Entry}
+use Rattle.kernel.specs.declared.call.Call.TheVariants as Call
+use Rattle.kernel.specs.declared.call.Call.TheVariants.{OwnWrite}
+use Rattle.kernel.specs.Call.{call_of, entry_turn}
+use Rattle.kernel.specs.Decide.{shown_tid, refused, own_write, decide_at, decide}
+use Rattle.kernel.proofs.Calls.{turned_by, entry_kind}
 use Rattle.kernel.proofs.Refusals.{dispatched_accepted}
 use Rattle.rules.specs.Facts.{Good}
 use Rattle.rules.proofs.Good.{first_active}
@@ -34,6 +40,7 @@ use Rattle.audit.specs.Survey.{used_in, count_up_to}
 use Rattle.audit.specs.Audit.{found_in}
 use Rattle.audit.proofs.Counts.{count_length}
 use Rattle.audit.proofs.Asked.{image_used, image_active, image_counted}
+use Rattle.inplace.proofs.Own.{own_by}
 use Rattle.inplace.specs.declared.turn.Turn.{Turn}
 use Rattle.inplace.specs.declared.Shown.{Shown}
 use Rattle.inplace.specs.Ends.{Begins, Ends, Does, end_bytes}
@@ -45,13 +52,13 @@ module _ (t : Table) (r : Request) (n a v : ℕ) (size : slots t ≡ n) (act : a
   unfolding decide decide_at
   decide_refused some = rw (size, ← act, ← is, lt-ltb accepted v some)
 
-  decide_write : v ≤ accepted → r.kind ≡ own_write_kind → decide t r ≡ own_write t a r.arg0 r.arg1
+  decide_write : v ≡ accepted → (o b : ℕ) → call_of r ≡ Ok (OwnWrite o b) → decide t r ≡ own_write t a o b
   unfolding decide decide_at
-  decide_write none own = rw (size, ← act, ← is, le-ltb accepted v none, eq-eqb r.kind own_write_kind own)
+  decide_write none o b asks = rw (size, ← act, ← is, none) (own_by (own_write t a) _ r o b asks)
 
-  decide_enters : v ≤ accepted → r.kind ≢ own_write_kind → decide t r ≡ settled a (turn_of t a r)
+  decide_enters : v ≡ accepted → (e : Entry) → call_of r ≡ Ok (Call.Entry e) → decide t r ≡ settled a (entry_turn t a e)
   unfolding decide decide_at
-  decide_enters none other = rw (size, ← act, ← is, le-ltb accepted v none, ne_eqb r.kind own_write_kind other)
+  decide_enters none e asks = rw (size, ← act, ← is, none, entry_kind r e asks, turned_by t a r e asks)
 
 -- an answer that tells nothing
 abbrev pub shown_by : ℕ → ℕ → Effect → Shown
@@ -124,18 +131,18 @@ module _ (n ed : ℕ) (b : List ℕ) where
               rw (decided_good r good, decide_refused t r n f.active v size active is some)
               (record { shown = refl; effect = refl; image = rw (lt-ltb accepted v some) })
 
-          pub decided_write : v ≤ accepted → r.kind ≡ own_write_kind
-              → Decided (decided_in n ed b r) b (shown_by accepted (tid_of f.active) (Put (place_in f.active r.arg0) r.arg1)) b
+          pub decided_write : v ≡ accepted → (o w : ℕ) → call_of r ≡ Ok (OwnWrite o w)
+              → Decided (decided_in n ed b r) b (shown_by accepted (tid_of f.active) (Put (place_in f.active o) w)) b
           unfolding own_write
-          decided_write none own =
-              rw (decided_good r good, decide_write t r n f.active v size active is none own)
+          decided_write none o w asks =
+              rw (decided_good r good, decide_write t r n f.active v size active is none o w asks)
               (record { shown = refl; effect = refl; image = sym (write_back n ed good).1 })
 
-          pub decided_enters : v ≤ accepted → r.kind ≢ own_write_kind → (u : Turn) {b' count after : List ℕ} {shown : Shown}
-              → Ends n ed f.active (turn_of t f.active r) u b' count
+          pub decided_enters : v ≡ accepted → (e : Entry) → call_of r ≡ Ok (Call.Entry e) → (u : Turn) {b' count after : List ℕ} {shown : Shown}
+              → Ends n ed f.active (entry_turn t f.active e) u b' count
               → Does (dispatched u.effect (table_of n ed (end_bytes n b' count f.active u))) shown after
               → Decided (decided_in n ed b r) b shown after
           unfolding settled
-          decided_enters none other u e d =
-              rw (decided_good r good, decide_enters t r n f.active v size active is none other, ← e.effect, ← e.table)
+          decided_enters none e asks u ends d =
+              rw (decided_good r good, decide_enters t r n f.active v size active is none e asks, ← ends.effect, ← ends.table)
               (record { shown = d.shown; effect = d.effect; image = d.image ∙ rw (dispatched_accepted u.effect _) })

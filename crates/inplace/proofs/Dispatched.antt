@@ -12,8 +12,8 @@ use Rattle.queue.specs.Choose.{first_below}
 use Rattle.queue.specs.Numbering.{ready_queue}
 use Rattle.queue.specs.Row.{place_at}
 use Rattle.queue.proofs.Below.{by_test, first_below_lem, first_equal}
-use Rattle.task.specs.declared.task.Result.{Result}
-use Rattle.task.specs.declared.task.Result.TheVariants.{Nothing}
+use Rattle.task.specs.declared.task.Outcome.{Outcome}
+use Rattle.task.specs.declared.task.Outcome.TheVariants.{Nothing}
 use Rattle.task.specs.declared.task.State.TheVariants.{Active}
 use Rattle.kernel.specs.declared.table.Answer.{Answer}
 use Rattle.kernel.specs.declared.table.Effect.{Effect}
@@ -85,7 +85,7 @@ module _ {n used : ℕ} {t : Table} {b count : List ℕ} (g : Stage n used n nob
         (result_read g s head_below)
 
     -- what is written is the image of the table in which the head runs
-    pub dispatch_some : (told : Result) (b' b'' : List ℕ) → b' ≡ closed_up 2 at_priority p b used
+    pub dispatch_some : (told : Outcome) (b' b'' : List ℕ) → b' ≡ closed_up 2 at_priority p b used
         → told ≡ result_of (result_parts_in (record_at record_length b' s)) → b'' ≡ left_bytes b' s Active Nothing 0
         → Decides (dispatched Keep t) (record { verdict = accepted; next = tid_of s; result = told }) b''
     unfolding dispatched

@@ -9,7 +9,7 @@ use lib.ListN.{get_or}
 use borrow.Author.Tests.{le-leb, lt-leb, lt-ltb}
 use Rattle.tid.specs.Sizes.{events}
 use Rattle.queue.specs.Numbering.{event_queue}
-use Rattle.task.specs.declared.task.Result.TheVariants.{Nothing, Fault}
+use Rattle.task.specs.declared.task.Outcome.TheVariants.{Nothing, Fault}
 use Rattle.task.specs.declared.task.State.TheVariants.{EventBlocked}
 use Rattle.task.specs.Standing.{queue_of}
 use Rattle.kernel.specs.declared.table.Effect.TheVariants.{Keep}

@@ -1,3 +1,5 @@
+pub mod Found
+pub mod Own
 pub mod Loops
 pub mod Buffers
 pub mod Ways

@@ -1,21 +1,15 @@
--- The bytes that are read in place are those of a record, and one turn of the loop that closes a queue up.
-use Prim.Native.Nat.{ℕ, suc, ◌+◌, ◌*◌, ◌<◌}
+-- One turn of the loop that closes a queue up.
+use Prim.Native.Nat.{ℕ, ◌+◌, ◌<◌}
 use mathlib.Core.Path.{◌≡◌, sym, ap, ◌∙◌}
 use mathlib.Core.List.{List}
 use native.Mathlib.Nat.{le_refl}
 use native.Mathlib.Numerals.{add-one}
 use native.Mathlib.Omega.{arith}
-use lib.ListN.{get_or}
 use Rattle.queue.specs.Choose.{choose}
-use Rattle.image.specs.Bytes.{number_in}
 use Rattle.image.specs.Record.{record_length, at_state, at_place, byte_in, byte_at}
 use Rattle.records.specs.Records.{leads_at, up_at, closed_up, head_of}
 use Rattle.image.proofs.Bytes.{byte_in_lem}
 use Rattle.records.proofs.Records.{closed_later}
-
--- two bytes are a number
-pub short_bytes : (b : List ℕ) (at next : ℕ) → next ≡ suc at → get_or b at 0 + 256 * get_or b next 0 ≡ number_in b at 2
-short_bytes b at next e = rw e (omega arith)
 
 -- a slot that was not reached leads where it led
 closed_leads : (code at key : ℕ) → at < record_length → (b : List ℕ) (s : ℕ)

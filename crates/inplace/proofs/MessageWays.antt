@@ -15,7 +15,7 @@ use Rattle.queue.proofs.Below.{by_test, both_true, true_both}
 use Rattle.tid.specs.Tid.{slot_of, tid_of, slot_named}
 use Rattle.tid.proofs.Trips.{slot_of_mark}
 use Rattle.task.specs.declared.task.Buffer.{Buffer}
-use Rattle.task.specs.declared.task.Result.TheVariants.{Nothing, Value, Fault}
+use Rattle.task.specs.declared.task.Outcome.TheVariants.{Nothing, Value, Fault}
 use Rattle.task.specs.declared.task.State.TheVariants.{Ready, SendBlocked, ReceiveBlocked, ReplyBlocked}
 use Rattle.task.specs.Task.{no_task, good_buffer, message_of, reply_of, is_alive, is_send_blocked}
 use Rattle.task.specs.Standing.{queue_of}

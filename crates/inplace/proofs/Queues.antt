@@ -9,8 +9,8 @@ use borrow.Author.Tests.{ne_eqb}
 use Rattle.tid.specs.Sizes.{priorities}
 use Rattle.queue.specs.Numbering.{queues_for}
 use Rattle.queue.specs.Row.{emptied}
-use Rattle.task.specs.declared.task.Result.{Result}
-use Rattle.task.specs.declared.task.Result.TheVariants.{Nothing}
+use Rattle.task.specs.declared.task.Outcome.{Outcome}
+use Rattle.task.specs.declared.task.Outcome.TheVariants.{Nothing}
 use Rattle.kernel.specs.declared.table.Table.{Table}
 use Rattle.kernel.specs.Table.{task_at, queue_at, with_queue}
 use Rattle.kernel.specs.Moves.{woken_row}
@@ -32,7 +32,7 @@ use Rattle.inplace.proofs.Ways.{joinable, Woke, nobody_woke}
 
 module _ {n ed used c : ℕ} {b count : List ℕ} (g : Begins n ed used c b count) (small : n < 255)
     (code key k : ℕ) (told : (x : Table) → Rules n used c x → Told n x code at_awaited key k) (past : priorities ≤ k)
-    (o : Result) (good : good_result used o ≡ true) where
+    (o : Outcome) (good : good_result used o ≡ true) where
   pub queue_wakes : Wakes n used code key (queue_at (table_of n ed b) k).len o b count
   queue_wakes =
       let f = g.stage.rules in

@@ -13,8 +13,8 @@ use Rattle.tid.specs.Sizes.{priorities}
 use Rattle.tid.specs.Tid.{mark_of, tid_of}
 use Rattle.queue.specs.Numbering.{places, send_queue}
 use Rattle.queue.specs.Row.{empty_row, alone_row}
-use Rattle.task.specs.declared.task.Result.{Result}
-use Rattle.task.specs.declared.task.Result.TheVariants.{Nothing, Fault}
+use Rattle.task.specs.declared.task.Outcome.{Outcome}
+use Rattle.task.specs.declared.task.Outcome.TheVariants.{Nothing, Fault}
 use Rattle.task.specs.declared.task.State.{State}
 use Rattle.task.specs.declared.task.State.TheVariants.{Ready, Exited}
 use Rattle.task.specs.Task.{first_negative, no_task, is_active, is_ready, is_quiet}
@@ -49,7 +49,7 @@ module _ {n ed used c : ℕ} {b count : List ℕ} (g : Begins n ed used c b coun
   nobody_wakes = nobody_woke g.stage small g.near g.runs (wakes_none (table_of n ed b) Nothing) (edition_read n ed b n)
 
   -- the caller goes on with a result
-  pub resumes_ends : (o : Result) → good_result used o ≡ true → Ends n ed c (resumes (table_of n ed b) o) (resumes_at n used o) b count
+  pub resumes_ends : (o : Outcome) → good_result used o ≡ true → Ends n ed c (resumes (table_of n ed b) o) (resumes_at n used o) b count
   resumes_ends o good = goes_on_ends nobody_wakes Keep running o good
 
   number_ends : (v : ℕ) → v < first_negative → Ends n ed c (resumes (table_of n ed b) (number v)) (resumes_at n used (number v)) b count
@@ -91,7 +91,7 @@ module _ {n ed used c : ℕ} {b count : List ℕ} (g : Begins n ed used c b coun
       rw senders (halts_ends woke Keep running Exited refl refl refl refl (λ _. none))
 
   -- a free task is woken alone
-  pub one_wakes : (s code : ℕ) (told : Result) → code_at (table_of n ed b) s ≡ code → is_free (task_at (table_of n ed b) s).state ≡ true → code ≢ 1 → good_result used told ≡ true
+  pub one_wakes : (s code : ℕ) (told : Outcome) → code_at (table_of n ed b) s ≡ code → is_free (task_at (table_of n ed b) s).state ≡ true → code ≢ 1 → good_result used told ≡ true
       → Woke n ed used c s told (alone_row (mark_of s)) told (table_of n ed b) b count (woken (table_of n ed b) (mark_of s) told) (joined_bytes b count s told) (joined_count b count s)
   one_wakes s code told is free_one other good =
       let old = g.stage in

@@ -16,8 +16,8 @@ use Rattle.queue.specs.declared.Queue.{Queue}
 use Rattle.queue.specs.Choose.{choose}
 use Rattle.queue.specs.Numbering.{event_queue, send_queue, queues_for}
 use Rattle.queue.specs.Row.{alone_row, pushed_row}
-use Rattle.task.specs.declared.task.Result.{Result}
-use Rattle.task.specs.declared.task.Result.TheVariants.{Nothing}
+use Rattle.task.specs.declared.task.Outcome.{Outcome}
+use Rattle.task.specs.declared.task.Outcome.TheVariants.{Nothing}
 use Rattle.task.specs.declared.task.State.{State}
 use Rattle.task.specs.declared.task.State.TheVariants.{Ready}
 use Rattle.task.specs.Task.{is_used, is_active, is_ready, is_quiet, task_as}
@@ -74,7 +74,7 @@ joinable {n} {used} {a} {w} {t} g small s l =
 
 -- Slot s is left to be woken, or nobody, where s is n: the turn's table is t, it wakes a row that is told `said`, and the caller's own move
 -- starts from t'.
-pub record Woke (n ed used c s : ℕ) (told : Result) (row : Queue) (said : Result) (t : Table) (b count : List ℕ) (t' : Table) (b' count' : List ℕ) : Type 0 where
+pub record Woke (n ed used c s : ℕ) (told : Outcome) (row : Queue) (said : Outcome) (t : Table) (b count : List ℕ) (t' : Table) (b' count' : List ℕ) : Type 0 where
   pub small : n < 255
   pub size : length b ≡ n * record_length
   pub near : c ≤ n
@@ -88,7 +88,7 @@ pub record Woke (n ed used c s : ℕ) (told : Result) (row : Queue) (said : Resu
 
 -- the one slot that is being woken, not the caller's, joins the tail of its queue
 pub slot_woke : {n ed used c s : ℕ} {t : Table} {b count : List ℕ} → Stage n used c (λ j. eqb j s) t b count → t.edition ≡ ed → n < 255 → c ≤ n
-    → (c < n → code_at t c ≡ 1) → (told : Result) → s < used → c ≢ s → good_result used told ≡ true
+    → (c < n → code_at t c ≡ 1) → (told : Outcome) → s < used → c ≢ s → good_result used told ≡ true
     → Woke n ed used c s told (alone_row (mark_of s)) told t b count (woken t (mark_of s) told) (joined_bytes b count s told) (joined_count b count s)
 unfolding woken_up_to pushed_row
 slot_woke {n} {ed} {used} {c} {s} {t} g edition small near runs told l apart good =
@@ -107,7 +107,7 @@ slot_woke {n} {ed} {used} {c} {s} {t} g edition small near runs told l apart goo
     }
 
 -- nobody is left to be woken
-pub nobody_woke : {n ed used c : ℕ} {row : Queue} {said : Result} {t t' : Table} {b count : List ℕ} → Stage n used c nobody t' b count
+pub nobody_woke : {n ed used c : ℕ} {row : Queue} {said : Outcome} {t t' : Table} {b count : List ℕ} → Stage n used c nobody t' b count
     → n < 255 → c ≤ n → (c < n → code_at t' c ≡ 1) → woken_row t row said ≡ t' → t'.edition ≡ ed
     → Woke n ed used c n Nothing row said t b count t' b count
 nobody_woke {n} g small near runs table edition =
@@ -125,16 +125,16 @@ nobody_woke {n} g small near runs table edition =
     }
 
 -- How the caller is left.
-module _ {n ed used c s : ℕ} {told said : Result} {row : Queue} {t t' : Table} {b b' count count' : List ℕ}
+module _ {n ed used c s : ℕ} {told said : Outcome} {row : Queue} {t t' : Table} {b b' count count' : List ℕ}
     (w : Woke n ed used c s told row said t b count t' b' count') (effect : Effect) where
-  abbrev turn : State → Result → Kernel.Turn
+  abbrev turn : State → Outcome → Kernel.Turn
   turn st o = record { table = t; woken = row; told = said; state = st; result = o; effect = effect }
 
-  abbrev turn_at : State → ℕ → Result → Turn
+  abbrev turn_at : State → ℕ → Outcome → Turn
   turn_at st place o = record { used = used; woken = s; told = told; state = st; place = place; result = o; effect = effect }
 
   -- from the stage that the caller's move leaves
-  ends : (st : State) (place : ℕ) (o : Result) (after : Table)
+  ends : (st : State) (place : ℕ) (o : Outcome) (after : Table)
       → (c < n → is_ready st ≡ true → Joinable b' count' c)
       → Stage n used n nobody after (end_bytes n b count c (turn_at st place o)) (end_count n b count c (turn_at st place o))
       → rejoined t' c st o ≡ after
@@ -155,7 +155,7 @@ module _ {n ed used c s : ℕ} {told said : Result} {row : Queue} {t t' : Table}
       }
 
   -- there is no caller
-  pub nobody_ends : (o : Result) → n ≤ c → Ends n ed c (turn Ready o) (turn_at Ready 0 o) b count
+  pub nobody_ends : (o : Outcome) → n ≤ c → Ends n ed c (turn Ready o) (turn_at Ready 0 o) b count
   unfolding end_bytes end_count
   nobody_ends o none =
       let same : c ≡ n = omega (arith, w.near) in
@@ -171,7 +171,7 @@ module _ {n ed used c s : ℕ} {told said : Result} {row : Queue} {t t' : Table}
     within = omega (arith, w.stage.rules.size, running)
 
     -- it goes on, behind whoever was woken
-    pub goes_on_ends : (o : Result) → good_result used o ≡ true → Ends n ed c (turn Ready o) (turn_at Ready 0 o) b count
+    pub goes_on_ends : (o : Outcome) → good_result used o ≡ true → Ends n ed c (turn Ready o) (turn_at Ready 0 o) b count
     unfolding end_bytes end_count
     goes_on_ends o good =
         let g = w.stage in

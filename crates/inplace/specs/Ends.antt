@@ -4,8 +4,8 @@ use Rattle.queue.specs.Choose.{choose}
 use Rattle.tid.specs.Sizes.{priorities}
 use Rattle.tid.specs.Tid.{tid_of, slot_named}
 use Rattle.task.specs.declared.task.Buffer.{Buffer}
-use Rattle.task.specs.declared.task.Result.{Result}
-use Rattle.task.specs.declared.task.Result.TheVariants.{Nothing, Value}
+use Rattle.task.specs.declared.task.Outcome.{Outcome}
+use Rattle.task.specs.declared.task.Outcome.TheVariants.{Nothing, Value}
 use Rattle.task.specs.declared.task.State.{State}
 use Rattle.task.specs.declared.task.State.TheVariants.{Ready, ReplyBlocked}
 use Rattle.task.specs.Task.{state_code, is_ready}
@@ -47,7 +47,7 @@ pub record Joinable (b count : List ℕ) (s : ℕ) : Type 0 where
   pub room : get_or count (byte_at b s at_priority) 0 < 255
 
 -- what waking the first m of a queue needs: whoever leaves it is a slot that may join its own
-pub record Wakes (n used code key m : ℕ) (o : Result) (b count : List ℕ) : Type 0 where
+pub record Wakes (n used code key m : ℕ) (o : Outcome) (b count : List ℕ) : Type 0 where
   pub fits : used ≤ n
   pub size : length b ≡ n * record_length
   pub joins : (i : ℕ) → i < m → let h = woken_in n used code key o b count i in
@@ -86,7 +86,7 @@ end_count n b count c r = caller_count n (woken_bytes n b count r) (woken_count 
 
 -- The turns where nobody is woken: the caller goes on with a result, or it stops, at a place of a queue or in none.
 
-abbrev pub resumes_at : ℕ → ℕ → Result → Turn
+abbrev pub resumes_at : ℕ → ℕ → Outcome → Turn
 resumes_at n used o =
     record { used = used; woken = n; told = Nothing; state = Ready; place = 0; result = o; effect = Keep }
 

@@ -5,59 +5,49 @@ ghost use Rattle.kernel.specs.Kinds as Kinds;
 ghost use Rattle.image.specs.Image.{table_of};
 ghost use Rattle.inplace.specs.Ends.{Begins, Ends};
 
-use crate::turn::{Turn, resumes, stops};
+use crate::store::Standing;
+use crate::turn::{Caller, Turn, resumes, stops};
 use crate::wake::wake_all;
+use image::fields::AWAITED;
 use kernel::edition::may_join;
 use kernel::kinds::signal;
 use queue::numbering::{FIRST_EVENT, QUEUES};
 use task::parts::EVENT_BLOCKED;
-use task::task::{Result, State};
+use task::task::{Outcome, State};
 use tid::sizes::EVENTS;
 
-pub(crate) fn await_event(
-    edition: u32,
-    image: &[u8],
-    used: usize,
-    count: &[u8; QUEUES],
-    c: usize,
-    event: u32,
-) -> Turn
-    requires { (c < slot_count) × Begins slot_count edition used c image.now count.now }
-    ensures { Ends slot_count edition c (Kinds.await_event (table_of slot_count edition image.now) c event) result image.now count.now }
+pub(crate) fn await_event(caller: Caller, image: &[u8], count: &[u8; QUEUES], event: u32) -> Turn
+    requires { (caller.slot < slot_count) × Begins slot_count caller.edition caller.used caller.slot image.now count.now }
+    ensures { Ends slot_count caller.edition caller.slot (Kinds.await_event (table_of slot_count caller.edition image.now) caller.slot event) result image.now count.now }
 {
+    let used = caller.used;
     if EVENTS <= event as usize {
-        return resumes(used, Result::Fault(1));
+        return resumes(used, Outcome::Fault(1));
     }
     let waiters = count[FIRST_EVENT + event as usize];
-    if !may_join(edition, waiters) {
-        return resumes(used, Result::Fault(3));
+    if !may_join(caller.edition, waiters) {
+        return resumes(used, Outcome::Fault(3));
     }
     stops(used, State::EventBlocked(event as u8), waiters)
 }
 
 // Whoever is active is interrupted, and goes on behind those who waited.
 pub(crate) fn event(
-    edition: u32,
+    caller: Caller,
     image: &mut [u8],
-    used: usize,
     count: &mut [u8; QUEUES],
-    c: usize,
     number: u32,
     word: u32,
 ) -> Turn
-    requires { (number < events) × Begins slot_count edition used c image.old count.old }
-    ensures { Ends slot_count edition c (Kinds.event (table_of slot_count edition image.old) number word) result image.new count.new }
+    requires { (number < events) × Begins slot_count caller.edition caller.used caller.slot image.old count.old }
+    ensures { Ends slot_count caller.edition caller.slot (Kinds.event (table_of slot_count caller.edition image.old) number word) result image.new count.new }
 {
-    let e = number as usize;
-    let waiters = count[FIRST_EVENT + e];
-    wake_all(
-        &mut *image,
-        used,
-        &mut *count,
-        EVENT_BLOCKED,
-        e as u8,
-        waiters,
-        signal(word),
-    );
-    resumes(used, Result::Nothing)
+    let waiters = Standing {
+        code: EVENT_BLOCKED,
+        at: AWAITED,
+        key: number as u8,
+    };
+    let many = count[FIRST_EVENT + number as usize];
+    wake_all(image, caller.used, count, waiters, many, signal(word));
+    resumes(caller.used, Outcome::Nothing)
 }

@@ -1,148 +1,106 @@
-// What each kind of request does to the records, in the order of the paper's table. `c` is the slot of the caller. Each is handed all that an
-// entry begins with, since its promise speaks of it; so it is with the edition, which AwaitEvent alone asks.
+// What each kind of request does to the records, in the order of the paper's table. Each is handed all that an entry begins with, since its
+// promise speaks of it; so it is with the edition, which AwaitEvent alone asks.
 ghost use Rattle.std.specs.Prelude.{◌≡◌, ◌*◌, ◌<◌, length};
 ghost use Rattle.tid.specs.Sizes.{slot_count};
 ghost use Rattle.kernel.specs.Kinds as Kinds;
-ghost use Rattle.kernel.specs.Decide as Decide;
-ghost use Rattle.kernel.specs.Refusal.{Enters};
+ghost use Rattle.kernel.specs.Call.{entry_turn, Enters_by};
 ghost use Rattle.image.specs.Record.{record_length, at_parent, byte_at};
 ghost use Rattle.image.specs.Image.{table_of};
 ghost use Rattle.inplace.specs.Ends.{Begins, Ends, resumes_at};
 
 use crate::events::{await_event, event};
 use crate::messages::{receive, reply, send};
-use crate::store::put;
-use crate::turn::{Turn, resumes, stops};
+use crate::store::{Standing, put};
+use crate::turn::{Caller, Turn, resumes, stops};
 use crate::wake::wake_all;
-use image::fields::{PARENT, RECORD, fields_of};
+use image::fields::{AWAITED, PARENT, RECORD, fields_of};
+use kernel::call::Entry;
 use kernel::kinds::number;
-use kernel::numbers::{
-    AWAIT_EVENT, CREATE, EXIT, MY_PARENT_TID, MY_TID, RECEIVE, REPLY as REPLY_KIND, SEND, YIELD,
-};
-use kernel::table::{Effect, Request};
 use queue::numbering::{FIRST_SEND, QUEUES};
-use queue::wide;
 use task::parts::RECEIVE_BLOCKED;
-use task::task::{Buffer, Result, State, Task};
+use task::task::{Outcome, State, Task};
 use tid::sizes::{PRIORITIES, SLOTS};
 use tid::tid_of;
 
-fn create(
-    edition: u32,
-    image: &mut [u8],
-    used: usize,
-    count: &[u8; QUEUES],
-    c: usize,
-    priority: u32,
-    entry: u32,
-) -> Turn
-    requires { (c < slot_count) × Begins slot_count edition used c image.old count.now }
-    ensures { Ends slot_count edition c (Kinds.create (table_of slot_count edition image.old) c priority entry) result image.new count.now }
+fn create(caller: Caller, image: &mut [u8], count: &[u8; QUEUES], priority: u32, entry: u32) -> Turn
+    requires { (caller.slot < slot_count) × Begins slot_count caller.edition caller.used caller.slot image.old count.now }
+    ensures { Ends slot_count caller.edition caller.slot (Kinds.create (table_of slot_count caller.edition image.old) caller.slot priority entry) result image.new count.now }
 {
+    let used = caller.used;
     if PRIORITIES <= priority as usize {
-        return resumes(used, Result::Fault(1));
+        return resumes(used, Outcome::Fault(1));
     }
     if SLOTS <= used {
-        return resumes(used, Result::Fault(2));
+        return resumes(used, Outcome::Fault(2));
     }
     let task = Task {
         state: State::Ready,
         priority: priority as u8,
-        parent: tid_of(c),
+        parent: tid_of(caller.slot),
         entry,
-        result: Result::Nothing,
+        result: Outcome::Nothing,
     };
-    let place = count[priority as usize];
-    put(&mut *image, used * RECORD, fields_of(task, place));
+    put(
+        image,
+        used * RECORD,
+        fields_of(task, count[priority as usize]),
+    );
     Turn {
-        used: used + 1,
         woken: used,
-        told: Result::Nothing,
-        state: State::Ready,
-        place: 0,
-        result: number(tid_of(used) as u32),
-        effect: Effect::Keep,
+        ..resumes(used + 1, number(tid_of(used) as u32))
     }
 }
 
-fn my_parent_tid(image: &[u8], used: usize, c: usize) -> Turn
-    requires { (c < slot_count) × (length image.now ≡ slot_count * record_length) }
-    ensures { result ≡ resumes_at slot_count used (Kinds.number (byte_at image.now c at_parent)) }
+fn my_parent_tid(caller: Caller, image: &[u8]) -> Turn
+    requires { (caller.slot < slot_count) × (length image.now ≡ slot_count * record_length) }
+    ensures { result ≡ resumes_at slot_count caller.used (Kinds.number (byte_at image.now caller.slot at_parent)) }
 {
-    resumes(used, number(wide(image[c * RECORD + PARENT]) as u32))
+    let parent = image[caller.slot * RECORD + PARENT];
+    resumes(caller.used, number(u32::from(parent)))
 }
 
 // Whoever is queued at the caller is woken: what it sent cannot be received any more.
-fn exit(edition: u32, image: &mut [u8], used: usize, count: &mut [u8; QUEUES], c: usize) -> Turn
-    requires { (c < slot_count) × Begins slot_count edition used c image.old count.old }
-    ensures { Ends slot_count edition c (Kinds.exit (table_of slot_count edition image.old) c) result image.new count.new }
+fn exit(caller: Caller, image: &mut [u8], count: &mut [u8; QUEUES]) -> Turn
+    requires { (caller.slot < slot_count) × Begins slot_count caller.edition caller.used caller.slot image.old count.old }
+    ensures { Ends slot_count caller.edition caller.slot (Kinds.exit (table_of slot_count caller.edition image.old) caller.slot) result image.new count.new }
 {
-    let senders = count[FIRST_SEND + c];
-    wake_all(
-        &mut *image,
-        used,
-        &mut *count,
-        RECEIVE_BLOCKED,
-        tid_of(c),
-        senders,
-        Result::Fault(2),
-    );
-    stops(used, State::Exited, 0)
+    let many = count[FIRST_SEND + caller.slot];
+    let senders = Standing {
+        code: RECEIVE_BLOCKED,
+        at: AWAITED,
+        key: tid_of(caller.slot),
+    };
+    wake_all(image, caller.used, count, senders, many, Outcome::Fault(2));
+    stops(caller.used, State::Exited, 0)
 }
 
-fn buffer(start: u32, len: u32) -> Buffer
-    ensures { result ≡ Decide.buffer start len }
-{
-    Buffer { start, len }
-}
-
-// The work of an entry; `c` is the slot of the active task, SLOTS where none is.
+// The work of an entry.
 pub(crate) fn turned(
-    edition: u32,
+    caller: Caller,
     image: &mut [u8],
-    used: usize,
     count: &mut [u8; QUEUES],
-    c: usize,
-    r: Request,
+    entry: Entry,
 ) -> Turn
-    requires { Enters slot_count c r × Begins slot_count edition used c image.old count.old }
-    ensures { Ends slot_count edition c (Decide.turn_of (table_of slot_count edition image.old) c r) result image.new count.new }
+    requires { Enters_by slot_count caller.slot entry × Begins slot_count caller.edition caller.used caller.slot image.old count.old }
+    ensures { Ends slot_count caller.edition caller.slot (entry_turn (table_of slot_count caller.edition image.old) caller.slot entry) result image.new count.new }
 {
-    let kind = r.kind;
-    match kind {
-        CREATE => create(edition, &mut *image, used, &*count, c, r.arg0, r.arg1),
-        MY_TID => resumes(used, number(tid_of(c) as u32)),
-        MY_PARENT_TID => my_parent_tid(&*image, used, c),
-        YIELD => resumes(used, number(0)),
-        EXIT => exit(edition, &mut *image, used, &mut *count, c),
-        SEND => send(
-            edition,
-            &*image,
-            used,
-            &*count,
-            c,
-            r.arg0,
-            buffer(r.arg1, r.arg2),
-            buffer(r.arg3, r.arg4),
-        ),
-        RECEIVE => receive(
-            edition,
-            &mut *image,
-            used,
-            &*count,
-            c,
-            buffer(r.arg0, r.arg1),
-        ),
-        REPLY_KIND => reply(
-            edition,
-            &*image,
-            used,
-            &*count,
-            c,
-            r.arg0,
-            buffer(r.arg1, r.arg2),
-        ),
-        AWAIT_EVENT => await_event(edition, &*image, used, &*count, c, r.arg0),
-        _ => event(edition, &mut *image, used, &mut *count, c, r.arg0, r.arg1),
+    match entry {
+        Entry::Create { priority, entry } => create(caller, image, count, priority, entry),
+        Entry::MyTid => resumes(caller.used, number(tid_of(caller.slot) as u32)),
+        Entry::MyParentTid => my_parent_tid(caller, image),
+        Entry::Yield => resumes(caller.used, number(0)),
+        Entry::Exit => exit(caller, image, count),
+        Entry::Send {
+            target,
+            message,
+            reply,
+        } => send(caller, image, count, target, message, reply),
+        Entry::Receive { buffer } => receive(caller, image, count, buffer),
+        Entry::Reply { target, buffer } => reply(caller, image, count, target, buffer),
+        Entry::AwaitEvent { event } => await_event(caller, image, count, event),
+        Entry::Event {
+            event: number,
+            word,
+        } => event(caller, image, count, number, word),
     }
 }

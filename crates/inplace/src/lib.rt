@@ -9,19 +9,26 @@ mod store;
 mod turn;
 mod wake;
 
-ghost use Rattle.std.specs.Prelude.{◌≡◌};
-ghost use Rattle.tid.specs.Sizes.{slot_count};
-ghost use Rattle.task.specs.declared.task.Result.TheVariants as O;
+ghost use Rattle.std.specs.Prelude.{◌≡◌, ◌<◌};
+ghost use Rattle.tid.specs.Sizes.{slot_count, area_bytes};
+ghost use Rattle.tid.specs.Tid.{tid_of};
+ghost use Rattle.task.specs.declared.task.Outcome.TheVariants as O;
+ghost use Rattle.kernel.specs.declared.table.Effect.TheVariants as E;
+ghost use Rattle.kernel.specs.Verdict.{refusal_number};
+ghost use Rattle.kernel.specs.Answer.{refused_answer, accepted_answer};
+ghost use Rattle.kernel.specs.Kinds.{place_in};
 ghost use Rattle.inplace.specs.Decided.{decided_in, Decided};
 
 use crate::end::settled;
 use crate::kinds::turned;
+use crate::turn::Caller;
 use audit::check;
 use image::stored::IMAGE;
-use kernel::decide::{refusal, shown_tid};
-use kernel::numbers::{ACCEPTED, BAD_IMAGE, BAD_TABLE, OWN_WRITE};
+use kernel::call::{Call, admitted};
+use kernel::decide::shown_tid;
+use kernel::refusal::Refusal;
 use kernel::table::{Answer, Effect, Request};
-use task::task::Result;
+use task::task::Outcome;
 use tid::sizes::AREA;
 use tid::tid_of;
 
@@ -32,16 +39,26 @@ pub struct Shown {
     pub effect: Effect,
 }
 
-fn told_nothing(verdict: u8, next: u8, effect: Effect) -> Shown
-    ensures { result ≡ record { answer = record { verdict = verdict; next = next; result = O.Nothing }; effect = effect } }
+fn refused(refusal: Refusal, next: u8) -> Shown
+    ensures { result ≡ record { answer = refused_answer (refusal_number refusal) next; effect = E.Keep } }
 {
     Shown {
-        answer: Answer {
-            verdict,
-            next,
-            result: Result::Nothing,
+        answer: Answer::refused(refusal.number(), next),
+        effect: Effect::Keep,
+    }
+}
+
+// One byte of the caller's own area.
+fn own_write(c: usize, offset: u32, byte: u32) -> Shown
+    requires { (c < slot_count) × ((offset < area_bytes) × (byte < 256)) }
+    ensures { result ≡ record { answer = accepted_answer (tid_of c) O.Nothing; effect = E.Put (place_in c offset) byte } }
+{
+    Shown {
+        answer: Answer::accepted(tid_of(c), Outcome::Nothing),
+        effect: Effect::Put {
+            at: c * AREA + offset as usize,
+            byte: byte as u8,
         },
-        effect,
     }
 }
 
@@ -50,25 +67,26 @@ pub fn decide(edition: u32, image: &mut [u8], r: Request) -> Shown
     ensures { Decided (decided_in slot_count edition image.old r) image.old result image.new }
 {
     if image.len() != IMAGE {
-        return told_nothing(BAD_IMAGE, 0, Effect::Keep);
+        return refused(Refusal::BadImage, 0);
     }
-    let found = check(edition, &*image);
+    let found = check(edition, image);
     if !found.good {
-        return told_nothing(BAD_TABLE, 0, Effect::Keep);
+        return refused(Refusal::BadTable, 0);
     }
-    let a = found.active;
-    let verdict = refusal(a, r);
-    if ACCEPTED < verdict {
-        return told_nothing(verdict, shown_tid(a), Effect::Keep);
+    // A slot past the last is none to both that are asked of it.
+    let active = Some(found.active);
+    match admitted(active, r) {
+        Err(refusal) => refused(refusal, shown_tid(active)),
+        Ok(Call::OwnWrite { offset, byte }) => own_write(found.active, offset, byte),
+        Ok(Call::Entry(entry)) => {
+            let caller = Caller {
+                edition,
+                used: found.used,
+                slot: found.active,
+            };
+            let mut count = found.count;
+            let turn = turned(caller, image, &mut count, entry);
+            settled(caller, image, &mut count, turn)
+        }
     }
-    if r.kind == OWN_WRITE {
-        let effect = Effect::Put {
-            at: a * AREA + r.arg0 as usize,
-            byte: r.arg1 as u8,
-        };
-        return told_nothing(ACCEPTED, tid_of(a), effect);
-    }
-    let mut count = found.count;
-    let turn = turned(edition, &mut *image, found.used, &mut count, a, r);
-    settled(edition, &mut *image, &mut count, a, turn)
 }

@@ -1,88 +1,79 @@
 // What Send, Receive and Reply do to the records: the faults first, each by its own way out. `target` is a tid that the caller names.
-ghost use Rattle.std.specs.Prelude.{◌≡◌, ◌*◌, ◌<◌, length};
+ghost use Rattle.std.specs.Prelude.{◌≡◌, ◌*◌, ◌<◌, length, unwrap_or, IfSome};
 ghost use Rattle.tid.specs.Sizes.{slot_count};
+ghost use Rattle.task.specs.declared.task.Outcome.TheVariants as O;
 ghost use Rattle.kernel.specs.Kinds as Kinds;
 ghost use Rattle.image.specs.Record.{record_length};
 ghost use Rattle.image.specs.Image.{table_of};
 ghost use Rattle.inplace.specs.Ends.{Begins, Ends, alive_at, delivers_at};
 
-use crate::store::{buffer_at, close_up, leave};
-use crate::turn::{Turn, resumes, stops};
+use crate::store::{Standing, buffer_at, close_up, leave};
+use crate::turn::{Caller, Turn, resumes, stops};
 use image::fields::{AWAITED, MESSAGE, RECORD, REPLY, STATE};
 use kernel::kinds::{delivery, is_cut, least};
 use queue::numbering::{FIRST_SEND, QUEUES};
 use task::parts::{EXITED, RECEIVE_BLOCKED, REPLY_BLOCKED, SEND_BLOCKED, UNUSED, good_buffer};
-use task::task::{Buffer, Result, State};
+use task::task::{Buffer, Outcome, State};
 use tid::sizes::SLOTS;
 use tid::{slot_named, tid_of};
 
-// The slot of a tid that exists; SLOTS where none does.
-fn alive(image: &[u8], target: u32) -> usize
+// The slot of a tid that exists.
+#[tactic(auto, unfolding(crate::specs::Ends::alive_at))]
+fn alive(image: &[u8], target: u32) -> Option<usize>
     requires { length image.now ≡ slot_count * record_length }
-    ensures { result ≡ alive_at slot_count image.now target }
+    ensures found { unwrap_or result slot_count ≡ alive_at slot_count image.now target }
+    ensures below { IfSome result (λ s. s < slot_count) }
 {
-    if target == 0 {
-        return SLOTS;
-    }
-    if SLOTS < target as usize {
-        return SLOTS;
+    if target == 0 || SLOTS < target as usize {
+        return None;
     }
     let s = slot_named(target as u8);
     let code = image[s * RECORD + STATE];
-    if code == UNUSED {
-        return SLOTS;
+    if code == UNUSED || EXITED <= code {
+        return None;
     }
-    if EXITED <= code {
-        return SLOTS;
-    }
-    s
+    Some(s)
 }
 
 // A message is copied at once into the buffer of slot s, which waits for one: it is told of it, and the caller waits for a reply.
-fn delivers(used: usize, c: usize, message: Buffer, reply: Buffer, s: usize, into: Buffer) -> Turn
-    requires { (c < slot_count) × (s < slot_count) }
-    ensures { result ≡ delivers_at used c message reply s into }
+fn delivers(caller: Caller, message: Buffer, reply: Buffer, s: usize, into: Buffer) -> Turn
+    requires { (caller.slot < slot_count) × (s < slot_count) }
+    ensures { result ≡ delivers_at caller.used caller.slot message reply s into }
 {
-    let caller = tid_of(c);
-    let copy = delivery(caller, message, tid_of(s), into);
+    let from = tid_of(caller.slot);
+    let copy = delivery(from, message, tid_of(s), into);
     Turn {
-        used,
         woken: s,
-        told: Result::Value {
-            from: caller,
+        told: Outcome::Value {
+            from,
             cut: is_cut(copy),
             value: message.len,
         },
-        state: State::ReplyBlocked(reply),
-        place: 0,
-        result: Result::Nothing,
         effect: copy,
+        ..stops(caller.used, State::ReplyBlocked(reply), 0)
     }
 }
 
 pub(crate) fn send(
-    edition: u32,
+    caller: Caller,
     image: &[u8],
-    used: usize,
     count: &[u8; QUEUES],
-    c: usize,
     target: u32,
     message: Buffer,
     reply: Buffer,
 ) -> Turn
-    requires { (c < slot_count) × Begins slot_count edition used c image.now count.now }
-    ensures { Ends slot_count edition c (Kinds.send (table_of slot_count edition image.now) c target message reply) result image.now count.now }
+    requires { (caller.slot < slot_count) × Begins slot_count caller.edition caller.used caller.slot image.now count.now }
+    ensures { Ends slot_count caller.edition caller.slot (Kinds.send (table_of slot_count caller.edition image.now) caller.slot target message reply) result image.now count.now }
 {
-    let s = alive(image, target);
-    if SLOTS <= s {
-        return resumes(used, Result::Fault(1));
+    let used = caller.used;
+    let Some(s) = alive(image, target) else {
+        return resumes(used, Outcome::Fault(1));
+    };
+    if s == caller.slot {
+        return resumes(used, Outcome::Fault(2));
     }
-    if s == c {
-        return resumes(used, Result::Fault(2));
-    }
-    let fits = good_buffer(message) & good_buffer(reply);
-    if !fits {
-        return resumes(used, Result::Fault(3));
+    if !(good_buffer(message) & good_buffer(reply)) {
+        return resumes(used, Outcome::Fault(3));
     }
     let at = s * RECORD;
     if image[at + STATE] != SEND_BLOCKED {
@@ -93,95 +84,83 @@ pub(crate) fn send(
         };
         return stops(used, sends, count[FIRST_SEND + s]);
     }
-    delivers(used, c, message, reply, s, buffer_at(image, at + MESSAGE))
+    delivers(caller, message, reply, s, buffer_at(image, at + MESSAGE))
 }
 
-pub(crate) fn receive(
-    edition: u32,
-    image: &mut [u8],
-    used: usize,
-    count: &[u8; QUEUES],
-    c: usize,
-    b: Buffer,
-) -> Turn
-    requires { (c < slot_count) × Begins slot_count edition used c image.old count.now }
-    ensures { Ends slot_count edition c (Kinds.receive (table_of slot_count edition image.old) c b) result image.new count.now }
+pub(crate) fn receive(caller: Caller, image: &mut [u8], count: &[u8; QUEUES], b: Buffer) -> Turn
+    requires { (caller.slot < slot_count) × Begins slot_count caller.edition caller.used caller.slot image.old count.now }
+    ensures { Ends slot_count caller.edition caller.slot (Kinds.receive (table_of slot_count caller.edition image.old) caller.slot b) result image.new count.now }
 {
+    let used = caller.used;
+    let own = tid_of(caller.slot);
     if !good_buffer(b) {
-        return resumes(used, Result::Fault(3));
+        return resumes(used, Outcome::Fault(3));
     }
-    if count[FIRST_SEND + c] == 0 {
+    if count[FIRST_SEND + caller.slot] == 0 {
         return stops(used, State::SendBlocked(b), 0);
     }
-    let s = close_up(&mut *image, used, RECEIVE_BLOCKED, AWAITED, tid_of(c));
+    let senders = Standing {
+        code: RECEIVE_BLOCKED,
+        at: AWAITED,
+        key: own,
+    };
+    let s = close_up(image, used, senders);
     let at = s * RECORD;
-    let sent = buffer_at(&*image, at + MESSAGE);
-    let reply = buffer_at(&*image, at + REPLY);
-    leave(
-        &mut *image,
-        s,
-        State::ReplyBlocked(reply),
-        Result::Nothing,
-        0,
-    );
-    let sender = tid_of(s);
-    let copy = delivery(sender, sent, tid_of(c), b);
+    let sent = buffer_at(image, at + MESSAGE);
+    let reply = State::ReplyBlocked(buffer_at(image, at + REPLY));
+    leave(image, s, reply, Outcome::Nothing, 0);
+    let from = tid_of(s);
+    let copy = delivery(from, sent, own, b);
+    let told = Outcome::Value {
+        from,
+        cut: is_cut(copy),
+        value: sent.len,
+    };
     Turn {
-        used,
-        woken: SLOTS,
-        told: Result::Nothing,
-        state: State::Ready,
-        place: 0,
-        result: Result::Value {
-            from: sender,
-            cut: is_cut(copy),
-            value: sent.len,
-        },
         effect: copy,
+        ..resumes(used, told)
+    }
+}
+
+// What both sides of a reply are told: how many bytes, from nobody.
+fn told_bytes(cut: bool, value: u32) -> Outcome
+    ensures { result ≡ O.Value 0 cut value }
+{
+    Outcome::Value {
+        from: 0,
+        cut,
+        value,
     }
 }
 
 pub(crate) fn reply(
-    edition: u32,
+    caller: Caller,
     image: &[u8],
-    used: usize,
     count: &[u8; QUEUES],
-    c: usize,
     target: u32,
     b: Buffer,
 ) -> Turn
-    requires { (c < slot_count) × Begins slot_count edition used c image.now count.now }
-    ensures { Ends slot_count edition c (Kinds.reply (table_of slot_count edition image.now) c target b) result image.now count.now }
+    requires { (caller.slot < slot_count) × Begins slot_count caller.edition caller.used caller.slot image.now count.now }
+    ensures { Ends slot_count caller.edition caller.slot (Kinds.reply (table_of slot_count caller.edition image.now) caller.slot target b) result image.now count.now }
 {
-    let s = alive(image, target);
-    if SLOTS <= s {
-        return resumes(used, Result::Fault(1));
-    }
+    let used = caller.used;
+    let Some(s) = alive(image, target) else {
+        return resumes(used, Outcome::Fault(1));
+    };
     let at = s * RECORD;
     if image[at + STATE] != REPLY_BLOCKED {
-        return resumes(used, Result::Fault(2));
+        return resumes(used, Outcome::Fault(2));
     }
     if !good_buffer(b) {
-        return resumes(used, Result::Fault(3));
+        return resumes(used, Outcome::Fault(3));
     }
     let awaited = buffer_at(image, at + REPLY);
-    let copy = delivery(tid_of(c), b, tid_of(s), awaited);
+    let copy = delivery(tid_of(caller.slot), b, tid_of(s), awaited);
     let cut = is_cut(copy);
     Turn {
-        used,
         woken: s,
-        told: Result::Value {
-            from: 0,
-            cut,
-            value: b.len,
-        },
-        state: State::Ready,
-        place: 0,
-        result: Result::Value {
-            from: 0,
-            cut,
-            value: least(b.len, awaited.len),
-        },
+        told: told_bytes(cut, b.len),
         effect: copy,
+        ..resumes(used, told_bytes(cut, least(b.len, awaited.len)))
     }
 }

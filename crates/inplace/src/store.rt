@@ -11,8 +11,8 @@ use image::fields::{
     CUT, ENTRY, FROM, PARENT, PLACE, PRIORITY, RECORD, RESULT, ResultParts, STATE, WORD, fields_of,
     result_of,
 };
-use image::words::{short, word};
-use task::task::{Buffer, Result, State, Task};
+use image::words::short;
+use task::task::{Buffer, Outcome, State, Task};
 use tid::sizes::SLOTS;
 
 // The buffer at an offset of the image.
@@ -31,11 +31,11 @@ fn word_at(image: &[u8], at: usize) -> u32
     requires { at + 4 ≤ length image.now }
     ensures { result ≡ number_in image.now at 4 }
 {
-    word(image[at], image[at + 1], image[at + 2], image[at + 3])
+    u32::from_le_bytes([image[at], image[at + 1], image[at + 2], image[at + 3]])
 }
 
 // The result that a record holds.
-pub(crate) fn result_at(image: &[u8], s: usize) -> Result
+pub(crate) fn result_at(image: &[u8], s: usize) -> Outcome
     requires { (s < slot_count) × (length image.now ≡ slot_count * record_length) }
     ensures { result ≡ result_of (result_parts_in (record_at record_length image.now s)) }
 {
@@ -53,15 +53,13 @@ pub(crate) fn put(image: &mut [u8], at: usize, r: [u8; RECORD])
     requires { at + record_length ≤ length image.old }
     ensures { image.new ≡ paste image.old at r record_length }
 {
-    let mut i = 0;
-    while i < RECORD {
+    for i in 0..RECORD {
         image[at + i] = r[i];
-        i += 1;
     }
 }
 
 // A record written anew: its priority, its parent and its entry number stay.
-pub(crate) fn leave(image: &mut [u8], s: usize, state: State, res: Result, place: u8)
+pub(crate) fn leave(image: &mut [u8], s: usize, state: State, res: Outcome, place: u8)
     requires { (s < slot_count) × (length image.old ≡ slot_count * record_length) }
     ensures { image.new ≡ left_bytes image.old s state res place }
 {
@@ -70,22 +68,30 @@ pub(crate) fn leave(image: &mut [u8], s: usize, state: State, res: Result, place
         state,
         priority: image[at + PRIORITY],
         parent: image[at + PARENT],
-        entry: word_at(&*image, at + ENTRY),
+        entry: word_at(image, at + ENTRY),
         result: res,
     };
-    put(&mut *image, at, fields_of(task, place));
+    put(image, at, fields_of(task, place));
+}
+
+// A queue, told by who stands there: the state that they have, and the byte of their records at an offset.
+#[derive(Clone, Copy, Drop)]
+pub(crate) struct Standing {
+    pub code: u8,
+    pub at: usize,
+    pub key: u8,
 }
 
 // One slot moves up if it stands in the queue; it is answered if it is the head.
-fn up_at(image: &mut [u8], s: usize, code: u8, at: usize, key: u8, head: usize) -> usize
-    requires { (s < slot_count) × ((length image.old ≡ slot_count * record_length) × (at < record_length)) }
-    ensures { Up code at key s head image.old result image.new }
+fn up_at(image: &mut [u8], s: usize, queue: Standing, head: usize) -> usize
+    requires { (s < slot_count) × ((length image.old ≡ slot_count * record_length) × (queue.at < record_length)) }
+    ensures { Up queue.code queue.at queue.key s head image.old result image.new }
 {
     let r = s * RECORD;
-    if image[r + STATE] != code {
+    if image[r + STATE] != queue.code {
         return head;
     }
-    if image[r + at] != key {
+    if image[r + queue.at] != queue.key {
         return head;
     }
     let place = image[r + PLACE];
@@ -97,15 +103,13 @@ fn up_at(image: &mut [u8], s: usize, code: u8, at: usize, key: u8, head: usize) 
 }
 
 // The head of a queue leaves it: whoever stands behind it moves up. Answers the head's slot, SLOTS where nobody leads.
-pub(crate) fn close_up(image: &mut [u8], used: usize, code: u8, at: usize, key: u8) -> usize
-    requires { (used ≤ slot_count) × ((length image.old ≡ slot_count * record_length) × (at < record_length)) }
-    ensures { Closes code at key slot_count used image.old result image.new }
+pub(crate) fn close_up(image: &mut [u8], used: usize, queue: Standing) -> usize
+    requires { (used ≤ slot_count) × ((length image.old ≡ slot_count * record_length) × (queue.at < record_length)) }
+    ensures { Closes queue.code queue.at queue.key slot_count used image.old result image.new }
 {
     let mut head = SLOTS;
-    let mut s = 0;
-    while s < used {
-        head = up_at(&mut *image, s, code, at, key, head);
-        s += 1;
+    for s in 0..used {
+        head = up_at(image, s, queue, head);
     }
     head
 }

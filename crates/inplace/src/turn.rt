@@ -4,8 +4,16 @@ ghost use Rattle.tid.specs.Sizes.{slot_count};
 ghost use Rattle.inplace.specs.Ends.{resumes_at, stops_at};
 
 use kernel::table::Effect;
-use task::task::{Result, State};
+use task::task::{Outcome, State};
 use tid::sizes::SLOTS;
+
+// Who asks: in which edition, in a table of how many used slots, and in which of them; SLOTS where nobody runs and the hardware asks.
+#[derive(Clone, Copy, Drop)]
+pub(crate) struct Caller {
+    pub edition: u32,
+    pub used: usize,
+    pub slot: usize,
+}
 
 // What the work of a request leaves besides the image: how many slots are used now, who is woken (SLOTS for nobody) and what it is told,
 // and the caller's own next state, its place there and its result. Where a whole queue is woken, it has been already.
@@ -13,24 +21,19 @@ use tid::sizes::SLOTS;
 pub(crate) struct Turn {
     pub used: usize,
     pub woken: usize,
-    pub told: Result,
+    pub told: Outcome,
     pub state: State,
     pub place: u8,
-    pub result: Result,
+    pub result: Outcome,
     pub effect: Effect,
 }
 
-pub(crate) fn resumes(used: usize, res: Result) -> Turn
+pub(crate) fn resumes(used: usize, res: Outcome) -> Turn
     ensures { result ≡ resumes_at slot_count used res }
 {
     Turn {
-        used,
-        woken: SLOTS,
-        told: Result::Nothing,
-        state: State::Ready,
-        place: 0,
         result: res,
-        effect: Effect::Keep,
+        ..stops(used, State::Ready, 0)
     }
 }
 
@@ -40,10 +43,10 @@ pub(crate) fn stops(used: usize, state: State, place: u8) -> Turn
     Turn {
         used,
         woken: SLOTS,
-        told: Result::Nothing,
+        told: Outcome::Nothing,
         state,
         place,
-        result: Result::Nothing,
+        result: Outcome::Nothing,
         effect: Effect::Keep,
     }
 }

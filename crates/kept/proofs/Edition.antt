@@ -2,7 +2,7 @@
 use Prim.Native.Nat.{ℕ, zero, suc}
 use mathlib.Core.Path.{◌≡◌, refl, ◌∙◌}
 use Rattle.queue.specs.declared.Queue.{Queue}
-use Rattle.task.specs.declared.task.Result.{Result}
+use Rattle.task.specs.declared.task.Outcome.{Outcome}
 use Rattle.task.specs.declared.task.State.{State}
 use Rattle.kernel.specs.declared.table.Table.{Table}
 use Rattle.kernel.specs.declared.table.Request.{Request}
@@ -24,12 +24,12 @@ turn_edition u = u.table.edition
 abbrev left_edition : Decision → ℕ
 left_edition d = d.table.edition
 
-row_edition : (t : Table) (q : Queue) (o : Result) (i : ℕ) → (woken_up_to t q o i).edition ≡ t.edition
+row_edition : (t : Table) (q : Queue) (o : Outcome) (i : ℕ) → (woken_up_to t q o i).edition ≡ t.edition
 unfolding woken_up_to woken joined queued
 row_edition t q o zero = refl
 row_edition t q o (suc i) = row_edition t q o i
 
-rejoined_edition : (t : Table) (c : ℕ) (st : State) (o : Result) → (rejoined t c st o).edition ≡ t.edition
+rejoined_edition : (t : Table) (c : ℕ) (st : State) (o : Outcome) → (rejoined t c st o).edition ≡ t.edition
 unfolding rejoined joined queued
 rejoined_edition t c st o = simp (through table_edition, choose_same)
 

@@ -6,84 +6,71 @@ mod refused;
 mod show;
 mod words;
 
-use crate::refused::{MOST, say_length, say_lost, say_refusal};
+use crate::refused::{Failure, MOST, lost, unread};
 use crate::show::show;
-use crate::words::{WORD, edition_of, length_of, word_at};
+use crate::words::{Job, edition_of, job_of, word_at};
 use chunks::read_full;
-use image::form::{FORMS, form_at, form_for};
+use image::form::form_for;
 use image::stored::{IMAGE, convert, read};
-use kernel::edition::is_edition;
-use kernel::numbers::{ACCEPTED, BAD_EDITION, ENTRY_LOST};
+use kernel::numbers::ACCEPTED;
+use kernel::refusal::Refusal;
+use kernel::table::Table;
 use std::io;
 
-// Which form an image of so many bytes has.
-fn say_form(rt: &impl Print, len: usize) -> io::Result<()> {
-    let form = form_at(form_for(len));
-    let slots = form.slots;
-    let bytes = form.bytes;
-    let with = if form.entries { "with" } else { "without" };
-    println!(rt; "ok: {len} bytes, {slots} records of {bytes} bytes, {with} entry numbers")
-}
-
-// The image in the form that has as many bytes as `out`.
-fn say_converted(
-    rt: &(impl Print + Eprint),
-    edition: u32,
-    image: &[u8],
-    out: &mut [u8],
-) -> io::Result<()> {
-    let verdict = convert(edition, image, &mut *out);
-    if verdict == ACCEPTED {
-        return rt.write_all(&*out);
-    }
-    if verdict == ENTRY_LOST {
-        let reading = read(edition, image);
-        return say_lost(rt, reading.table);
-    }
-    say_refusal(rt, verdict, edition, image.len())
-}
-
-// The same, in the form of so many bytes. No form has more than the newest.
-fn say_as(rt: &(impl Print + Eprint), edition: u32, image: &[u8], len: usize) -> io::Result<()> {
-    if FORMS <= form_for(len) {
-        return say_length(rt, len);
-    }
-    let mut out = [0u8; IMAGE];
-    say_converted(rt, edition, image, &mut out[..len])
-}
-
-// By the first letter of its word: `check`; the length of a form to convert into, as `640`; or, as without a word, `show`. The edition is asked
-// first, as the kernel does: of what is asked of no edition nothing else is said.
-fn answered(
-    rt: &(impl Print + Eprint),
-    word: [u8; WORD],
-    edition: u32,
-    image: &[u8],
-) -> io::Result<()> {
-    if !is_edition(edition) {
-        return say_refusal(rt, BAD_EDITION, edition, image.len());
-    }
-    let first = word[0];
-    if b'0' <= first && first <= b'9' {
-        return say_as(rt, edition, image, length_of(word));
-    }
+// The table of an image.
+fn table_of(edition: u32, image: &[u8]) -> Result<Table, Failure> {
     let reading = read(edition, image);
-    if ACCEPTED < reading.verdict {
-        return say_refusal(rt, reading.verdict, edition, image.len());
+    if reading.verdict != ACCEPTED {
+        return Err(unread(reading.verdict, edition, image.len()));
     }
-    if first == b'c' {
-        return say_form(rt, image.len());
+    Ok(reading.table)
+}
+
+// Which form an image of so many bytes has.
+fn say_form(rt: &impl Print, len: usize) -> Result<(), Failure> {
+    let form = form_for(len).ok_or(Failure::Length { len })?;
+    let with = if form.entries { "with" } else { "without" };
+    println!(rt;
+        "ok: {len} bytes, {} records of {} bytes, {with} entry numbers",
+        form.slots, form.bytes
+    )?;
+    Ok(())
+}
+
+// The image in the form of so many bytes. No form has more than the newest.
+fn say_as(rt: &impl Print, edition: u32, image: &[u8], len: usize) -> Result<(), Failure> {
+    if form_for(len).is_none() {
+        return Err(Failure::Length { len });
     }
-    show(rt, reading.table)
+    let mut room = [0u8; IMAGE];
+    let out = &mut room[..len];
+    match convert(edition, image, out) {
+        Ok(()) => Ok(rt.write_all(out)?),
+        Err(Refusal::EntryLost) => Err(lost(table_of(edition, image)?)),
+        Err(refusal) => Err(unread(refusal.number(), edition, image.len())),
+    }
+}
+
+// The edition is asked first, as the kernel does: of what is asked of no edition nothing else is said.
+fn answer(rt: &impl Print, job: Job, edition: Option<u32>, image: &[u8]) -> Result<(), Failure> {
+    let edition = edition.ok_or(Failure::Edition)?;
+    match job {
+        Job::Convert(len) => say_as(rt, edition, image, len),
+        Job::Check => {
+            table_of(edition, image)?;
+            say_form(rt, image.len())
+        }
+        Job::Show => Ok(show(rt, table_of(edition, image)?)?),
+    }
 }
 
 fn main(rt: HostRuntime) -> io::Result<()> {
     let mut bytes = [0u8; MOST];
     let n = read_full(&mut rt.reader(), &mut bytes)?;
-    let word = word_at(&rt, 1);
+    let job = job_of(word_at(&rt, 1));
     let edition = edition_of(word_at(&rt, 2));
-    if answered(&rt, word, edition, &bytes[..n]).is_err() {
-        let _ = eprintln!(rt; "kernel-image: standard output cannot be written");
+    if let Err(why) = answer(&rt, job, edition, &bytes[..n]) {
+        let _ = eprintln!(rt; "{why}");
     }
     Ok(())
 }

@@ -1,50 +1,49 @@
-// Refusals, by their numbers and in words, on standard error.
-use kernel::numbers::{BAD_EDITION, BAD_IMAGE, ENTRY_LOST};
+// What is said on standard error in place of an answer.
+use kernel::refusal::Refusal;
 use kernel::table::Table;
 use std::io;
+use thiserror::Error;
 use tid::sizes::SLOTS;
 use tid::tid_of;
 
 // As much as is read: an input that is so long may be longer.
 pub(crate) const MOST: usize = 65536;
 
-// A length that no form has.
-pub(crate) fn say_length(rt: &impl Eprint, len: usize) -> io::Result<()> {
-    let more = if len < MOST { "" } else { " or more" };
-    eprintln!(rt; "R{BAD_IMAGE}: {len}{more} bytes are no form's length")
+// A refusal, by its number and in words; or that what was asked for cannot be written.
+#[derive(Debug, Drop, Error)]
+pub(crate) enum Failure {
+    #[error("R{}: an edition is 1 or 2", Refusal::BadEdition.number())]
+    Edition,
+    // A length that no form has.
+    #[error("R{}: {len}{} bytes are no form's length", Refusal::BadImage.number(), more(.len))]
+    Length { len: usize },
+    // Which edition broke the rule is said, since the same bytes may be an image in the other.
+    #[error("R{}: a rule of a table of edition {edition} is broken", Refusal::BadTable.number())]
+    Rule { edition: u32 },
+    // Whose entry number has no room in the form that was asked for: the first task that has one.
+    #[error("R{}: the entry number of tid {tid} would be lost", Refusal::EntryLost.number())]
+    Entry { tid: u8 },
+    #[error("kernel-image: standard output cannot be written")]
+    Output(#[from] io::Error),
 }
 
-// An image of so many bytes that is not read. Which edition broke the rule is said, since the same bytes may be an image in the other.
-pub(crate) fn say_refusal(
-    rt: &impl Eprint,
-    verdict: u8,
-    edition: u32,
-    len: usize,
-) -> io::Result<()> {
-    if verdict == BAD_EDITION {
-        return eprintln!(rt; "R{verdict}: an edition is 1 or 2");
-    }
-    if verdict == BAD_IMAGE {
-        return say_length(rt, len);
-    }
-    eprintln!(rt; "R{verdict}: a rule of a table of edition {edition} is broken")
+fn more(len: &usize) -> &'static str {
+    if *len < MOST { "" } else { " or more" }
 }
 
-// The first slot whose task has an entry number other than 0; SLOTS where none has.
-fn first_entry(table: Table) -> usize {
-    let mut s = 0;
-    while s < SLOTS {
-        let task = table.tasks[s];
-        if task.entry != 0 {
-            break;
-        }
-        s += 1;
+// An image of so many bytes that is not read, by the number of its refusal.
+pub(crate) fn unread(verdict: u8, edition: u32, len: usize) -> Failure {
+    if verdict == Refusal::BadImage.number() {
+        Failure::Length { len }
+    } else {
+        Failure::Rule { edition }
     }
-    s
 }
 
-// Which task's entry number has no room in the form that was asked for: the first that has one.
-pub(crate) fn say_lost(rt: &impl Eprint, table: Table) -> io::Result<()> {
-    let tid = tid_of(first_entry(table));
-    eprintln!(rt; "R{ENTRY_LOST}: the entry number of tid {tid} would be lost")
+// A table with an entry number that has no room.
+pub(crate) fn lost(table: Table) -> Failure {
+    let first = table.tasks.iter().position(|task| task.entry != 0);
+    Failure::Entry {
+        tid: tid_of(first.unwrap_or(SLOTS)),
+    }
 }

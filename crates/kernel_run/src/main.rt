@@ -3,15 +3,15 @@
 // standard error, and nothing is read or written then.
 #![tactic(auto)]
 
-ghost use Rattle.std.specs.Prelude.{◌≡◌, true, List, ℕ, ◌≤◌, length, take};
+ghost use Rattle.std.specs.Prelude.{◌≡◌, true, List, ℕ, ◌≤◌, length, take, unwrap_or, IfSome};
+ghost use Rattle.kernel.specs.Edition.{is_edition};
 ghost use Rattle.lines.specs.Block.{showed, room_for};
 ghost use Rattle.lines.specs.Printed.{Reached};
 ghost use Rattle.kernel_run.specs.Stands.{Stands, Leads, Onward};
 ghost use Rattle.kernel_run.specs.Words.{edition_named};
 
 use image::call::REQUEST;
-use kernel::edition::{MANY_WAIT, ONE_WAITS, is_edition};
-use kernel::table::Table;
+use kernel::edition::{MANY_WAIT, ONE_WAITS};
 use lines::{Block, LONGEST_WIDE, fresh_block, show_block};
 use std::env::{Env, FillError};
 use std::io::Read;
@@ -29,32 +29,18 @@ const WORD: usize = 8;
 // As many records as are read at a time.
 const RECORDS: usize = 100;
 
-// Where a run stands after a block, and whether there may be another.
-#[derive(Drop)]
-struct Next {
-    table: Table,
-    step: u64,
-    more: bool,
-}
-
-// The edition that the words name, of which the first has so many bytes, and this one first; 0 where it names none. The program's own
+// The edition that the words name, of which the first has so many bytes, and this one first; none where it names none. The program's own
 // name is a word.
-fn edition_named(words: usize, bytes: usize, first: u8) -> u32
-    ensures { result ≡ edition_named words bytes first }
+fn edition_named(words: usize, bytes: usize, first: u8) -> Option<u32>
+    ensures named { unwrap_or result 0 ≡ edition_named words bytes first }
+    ensures known { IfSome result (λ edition. is_edition edition ≡ true) }
 {
-    if words < 2 {
-        return ONE_WAITS;
+    match (words, bytes, first) {
+        (0 | 1, _, _) => Some(ONE_WAITS),
+        (_, 1, b'1') => Some(ONE_WAITS),
+        (_, 1, b'2') => Some(MANY_WAIT),
+        _ => None,
     }
-    if bytes != 1 {
-        return 0;
-    }
-    if first == b'1' {
-        return ONE_WAITS;
-    }
-    if first == b'2' {
-        return MANY_WAIT;
-    }
-    0
 }
 
 // Reads some bytes, or none at the end of the input. An input that cannot be read has ended; it says so.
@@ -111,7 +97,7 @@ fn shown(
     ensures whole { (take result.end out.new ≡ (showed wide first areas.old records.now).text) × (result.end ≤ length out.new) }
     ensures onward { (input : List ℕ) → Reached edition input first.table first.step areas.old → Onward wide edition input records.now (take result.end out.new) result.table result.step areas.new }
 {
-    show_block(first, records, &mut *areas, &mut *out, wide)
+    show_block(first, records, areas, out, wide)
 }
 
 // One block: read, stepped and written. Where there may be another, the run of all that was read stands in what is left.
@@ -119,61 +105,45 @@ fn turn<R: Read>(
     rt: &(impl Print + Eprint),
     from: &mut R,
     edition: u32,
-    table: Table,
-    step: u64,
+    mut first: Block,
     areas: &mut [u8],
     wide: bool,
-) -> Next
-    requires { Stands edition table step areas.old }
-    ensures { result.more ≡ true → Leads edition table step areas.old result.table result.step areas.new }
+) -> Option<Block>
+    requires { Stands edition first.table first.step areas.old }
+    ensures { IfSome result (λ next. Leads edition first.table first.step areas.old next.table next.step areas.new) }
 {
     let mut records = [0u8; REQUEST * RECORDS];
     let mut out = [0u8; LONGEST_WIDE * (RECORDS + 1)];
     let n = fill(rt, from, &mut records);
-    let first = Block {
-        table,
-        step,
-        end: 0,
-    };
-    let block = shown(edition, first, &records[..n], &mut *areas, &mut out, wide);
-    let next = block.table;
-    let end = block.end;
-    let is_written = written(rt, &out[..end]);
-    Next {
-        table: next,
-        step: block.step,
-        more: is_written & (0 < n) & (n % REQUEST == 0),
-    }
+    first.end = 0;
+    let block = shown(edition, first, &records[..n], areas, &mut out, wide);
+    let goes_on = written(rt, &out[..block.end]) && 0 < n && n % REQUEST == 0;
+    goes_on.then_some(block)
 }
 
-// A proved loop has to end, and nothing says that the input does. So the loop counts its turns down, from a number that no
-// run uses up.
+// A proved loop has to end, and nothing says that the input does: so it has a number of turns that no run uses up.
 fn run<R: Read>(
     rt: &(impl Print + Eprint),
     from: &mut R,
     edition: u32,
-    first: Block,
+    mut block: Block,
     areas: &mut [u8],
     wide: bool,
 )
-    requires { Stands edition first.table first.step areas.old }
+    requires { Stands edition block.table block.step areas.old }
 {
-    let mut table = first.table;
-    let mut step = first.step;
-    let mut turns = u64::MAX;
-    while 0 < turns {
-        let next = turn(rt, from, edition, table, step, &mut *areas, wide);
-        if !next.more {
+    for _ in 0..u64::MAX {
+        let Some(next) = turn(rt, from, edition, block, areas, wide) else {
             break;
-        }
-        table = next.table;
-        step = next.step;
-        turns -= 1;
+        };
+        block = next;
     }
 }
 
 // The edition that the words name.
-fn edition_asked(rt: &impl Env) -> u32 {
+fn edition_asked(rt: &impl Env) -> Option<u32>
+    ensures { IfSome result (λ edition. is_edition edition ≡ true) }
+{
     let mut word = [0u8; WORD];
     match rt.arg(1, &mut word) {
         Ok(bytes) => edition_named(2, bytes, word[0]),
@@ -185,19 +155,15 @@ fn edition_asked(rt: &impl Env) -> u32 {
 // Whether a word stands behind the edition.
 fn asks_wide(rt: &impl Env) -> bool {
     let mut word = [0u8; WORD];
-    match rt.arg(2, &mut word) {
-        Err(FillError::NotPresent) => false,
-        _ => true,
-    }
+    !matches!(rt.arg(2, &mut word), Err(FillError::NotPresent))
 }
 
 fn main(rt: HostRuntime) {
     let mut areas = [0u8; SLOTS * AREA];
-    let edition = edition_asked(&rt);
-    if !is_edition(edition) {
+    let Some(edition) = edition_asked(&rt) else {
         let _ = eprintln!(rt; "kernel-run: the first word is the edition, 1 or 2");
         return;
-    }
+    };
     let wide = asks_wide(&rt);
     run(
         &rt,

@@ -15,7 +15,7 @@ use Rattle.queue.proofs.Below.{by_test}
 use Rattle.tid.specs.Sizes.{area_bytes}
 use Rattle.tid.specs.Tid.{slot_of}
 use Rattle.task.specs.declared.task.Buffer.{Buffer}
-use Rattle.task.specs.declared.task.Result.{Result}
+use Rattle.task.specs.declared.task.Outcome.{Outcome}
 use Rattle.task.specs.declared.task.State.{State}
 use Rattle.task.specs.declared.task.State.TheVariants.{Ready}
 use Rattle.task.specs.declared.task.Task.{Task}
@@ -62,23 +62,23 @@ active_bare : (t : Table) → active_slot (bare_table t) ≡ active_slot t
 unfolding active_slot
 active_bare t = simp (length-map, bare_at)
 
-left_bare : (t : Table) (s : ℕ) (st : State) (o : Result) → left_as (bare_table t) s st o ≡ bare_table (left_as t s st o)
+left_bare : (t : Table) (s : ℕ) (st : State) (o : Outcome) → left_as (bare_table t) s st o ≡ bare_table (left_as t s st o)
 left_bare t s st o = simp (bare_at, map_set)
 
 joined_bare : (t : Table) (mark : ℕ) → joined (bare_table t) mark ≡ bare_table (joined t mark)
 unfolding joined queued
 joined_bare t mark = simp bare_at
 
-woken_bare : (t : Table) (mark : ℕ) (o : Result) → woken (bare_table t) mark o ≡ bare_table (woken t mark o)
+woken_bare : (t : Table) (mark : ℕ) (o : Outcome) → woken (bare_table t) mark o ≡ bare_table (woken t mark o)
 unfolding woken
 woken_bare t mark o = rw (left_bare t (slot_of mark) Ready o) (joined_bare (left_as t (slot_of mark) Ready o) mark)
 
-row_bare : (t : Table) (q : Queue) (o : Result) (i : ℕ) → woken_up_to (bare_table t) q o i ≡ bare_table (woken_up_to t q o i)
+row_bare : (t : Table) (q : Queue) (o : Outcome) (i : ℕ) → woken_up_to (bare_table t) q o i ≡ bare_table (woken_up_to t q o i)
 unfolding woken_up_to
 row_bare t q o zero = refl
 row_bare t q o (suc i) = rw (row_bare t q o i) (woken_bare (woken_up_to t q o i) (place_at q i) o)
 
-rejoined_bare : (t : Table) (c : ℕ) (st : State) (o : Result) → rejoined (bare_table t) c st o ≡ bare_table (rejoined t c st o)
+rejoined_bare : (t : Table) (c : ℕ) (st : State) (o : Outcome) → rejoined (bare_table t) c st o ≡ bare_table (rejoined t c st o)
 unfolding rejoined
 rejoined_bare t c st o = simp (through bare_table, length-map, left_bare, joined_bare)
 

@@ -11,7 +11,7 @@ use Rattle.queue.specs.Row.{place_at}
 use Rattle.queue.proofs.Below.{by_test, both_true, true_both}
 use Rattle.tid.specs.Tid.{mark_of, slot_of, tid_of}
 use Rattle.tid.proofs.Trips.{slot_of_mark}
-use Rattle.task.specs.declared.task.Result.TheVariants.{Nothing, Value, Fault}
+use Rattle.task.specs.declared.task.Outcome.TheVariants.{Nothing, Value, Fault}
 use Rattle.task.specs.declared.task.State.TheVariants.{Ready, ReplyBlocked}
 use Rattle.task.specs.Task.{good_buffer, message_of, reply_of, awaited, task_as}
 use Rattle.kernel.specs.declared.table.Table.{Table}

@@ -11,8 +11,8 @@ use borrow.Author.Tests.{eq-eqb, ne_eqb, not-true}
 use Rattle.queue.specs.Choose.{choose}
 use Rattle.queue.proofs.Below.{by_test}
 use Rattle.tid.specs.Tid.{slot_named}
-use Rattle.task.specs.declared.task.Result.{Result}
-use Rattle.task.specs.declared.task.Result.TheVariants.{Nothing, Value, Fault}
+use Rattle.task.specs.declared.task.Outcome.{Outcome}
+use Rattle.task.specs.declared.task.Outcome.TheVariants.{Nothing, Value, Fault}
 use Rattle.task.specs.declared.task.Task.{Task}
 use Rattle.task.specs.Result.{result_cut}
 use Rattle.task.specs.Task.{is_negative}
@@ -42,7 +42,7 @@ use Rattle.laws.proofs.Sees.{left_other, left_own, enters, entry_tells, steps_go
 use Rattle.laws.proofs.Reach.{step_effect, sent_effect, replied_effect}
 
 -- a result is no value, or one that is cut as a mark says
-abbrev agrees : Bool → Result → Bool
+abbrev agrees : Bool → Outcome → Bool
 agrees mark Nothing = true
 agrees mark (Value from cut v) = choose cut mark (not mark)
 agrees mark (Fault f) = true
@@ -88,7 +88,7 @@ module _ {n : ℕ} {t : Table} {xs : List ℕ} (steps : Steps n t xs) (r : Reque
   abbrev mark : ℕ → Bool
   mark s = choose (is_given t r s) short (b s)
 
-  abbrev Agrees : ℕ → Result → Type 0
+  abbrev Agrees : ℕ → Outcome → Type 0
   Agrees s o = agrees (mark s) o ≡ true
 
   module _ (e : is_entry t r ≡ true) where
@@ -116,7 +116,7 @@ module _ {n : ℕ} {t : Table} {xs : List ℕ} (steps : Steps n t xs) (r : Reque
         (λ happens.
         let cut = ap is_cut (event_effect t a r (signalled_facts t r s happens).kind) in
         rw (e, apart, n₁, n₂, happens, ← effect_short, cut)
-        (chosen (λ (o : Result). agrees false o ≡ true) (is_negative r.arg1) (λ _. refl) (λ _. refl)))
+        (chosen (λ (o : Outcome). agrees false o ≡ true) (is_negative r.arg1) (λ _. refl) (λ _. refl)))
         (λ n₃. chosen Is (is_turned_away t r s) (λ _. refl)
         (λ n₄. rw (e, apart, n₁, n₂, n₃, n₄) (held s))))))
 
@@ -158,7 +158,7 @@ run_agrees (r ∷ rs) t xs b first steps held shown =
     (run_agrees rs d.table (after d.effect xs) (mark steps r b held) d.answer (steps_next steps r) tells.held tells.shown)
 
 -- before the first step that gives a task a result the table says what it holds
-first_agrees : (o : Result) → agrees (eqb (result_cut o) 1) o ≡ true
+first_agrees : (o : Outcome) → agrees (eqb (result_cut o) 1) o ≡ true
 first_agrees Nothing = refl
 first_agrees (Value from true v) = refl
 first_agrees (Value from false v) = refl

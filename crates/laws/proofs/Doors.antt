@@ -8,7 +8,7 @@ use lib.ListN.{length}
 use borrow.Author.Tests.{eqb-true}
 use Rattle.queue.specs.Numbering.{send_queue}
 use Rattle.queue.specs.Row.{members, count, emptied}
-use Rattle.task.specs.declared.task.Result.TheVariants.{Nothing, Fault}
+use Rattle.task.specs.declared.task.Outcome.TheVariants.{Nothing, Fault}
 use Rattle.task.specs.declared.task.State.TheVariants.{Exited}
 use Rattle.task.specs.Task.{awaited, is_receive_blocked}
 use Rattle.kernel.specs.declared.table.Table.{Table}

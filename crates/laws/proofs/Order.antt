@@ -20,7 +20,7 @@ use Rattle.queue.proofs.Rules.{alone_row_lem}
 use Rattle.queue.proofs.Turns.{pushed_members, popped_members}
 use Rattle.tid.specs.Sizes.{priorities}
 use Rattle.tid.specs.Tid.{mark_of, slot_of}
-use Rattle.task.specs.declared.task.Result.{Result}
+use Rattle.task.specs.declared.task.Outcome.{Outcome}
 use Rattle.task.specs.declared.task.State.TheVariants.{Ready}
 use Rattle.task.specs.declared.task.Task.{Task}
 use Rattle.task.specs.Task.{no_task, task_as}
@@ -59,7 +59,7 @@ of_same x t same p [] = refl
 of_same x t same p (m ∷ ms) = rw (same (slot_of m), of_same x t same p ms)
 
 -- nobody's changes while others are woken
-woken_priority : (t : Table) (mark : ℕ) (o : Result) → SamePriorities (woken t mark o) t
+woken_priority : (t : Table) (mark : ℕ) (o : Outcome) → SamePriorities (woken t mark o) t
 unfolding woken joined queued
 woken_priority t mark o s =
     elim (ℕ_discrete s (slot_of mark)) [
@@ -69,7 +69,7 @@ woken_priority t mark o s =
       | no other ↦ ap (λ (x : Task). x.priority) (woken_other t mark o other)
     ]
 
-row_priority : (t : Table) (q : Queue) (o : Result) (i : ℕ) → SamePriorities (woken_up_to t q o i) t
+row_priority : (t : Table) (q : Queue) (o : Outcome) (i : ℕ) → SamePriorities (woken_up_to t q o i) t
 unfolding woken_up_to
 row_priority t q o zero s = refl
 row_priority t q o (suc i) s = woken_priority (woken_up_to t q o i) (place_at q i) o s ∙ row_priority t q o i s
@@ -89,7 +89,7 @@ module _ {n used a : ℕ} {w : ℕ → Bool} {x : Table} (f : Waking n used a w 
   rules_fits : (p : ℕ) → p < priorities → let q = queue_at x (ready_queue p) in q.len ≤ length q.marks
   rules_fits p low = (f.lined.holds.row p (omega (arith, rules_rows))).fits
 
-  module _ {q : Queue} (row : RowFacts n w q) (o : Result) (good : good_result used o ≡ true)
+  module _ {q : Queue} (row : RowFacts n w q) (o : Outcome) (good : good_result used o ≡ true)
       (ours : (s : ℕ) → s < n → w s ≡ true → s < used) where
     -- whoever stands at place i joins behind all others of its priority
     next_joins : (p i : ℕ) → i < q.len
@@ -137,7 +137,7 @@ module _ {n used a : ℕ} {w : ℕ → Bool} {x : Table} (f : Waking n used a w 
         }
 
 -- a task that stands in no queue is woken alone
-pub one_joins_last : {n used a : ℕ} {x : Table} → Rules n used a x → (s : ℕ) → is_free (task_at x s).state ≡ true → (o : Result) → good_result used o ≡ true
+pub one_joins_last : {n used a : ℕ} {x : Table} → Rules n used a x → (s : ℕ) → is_free (task_at x s).state ≡ true → (o : Outcome) → good_result used o ≡ true
     → {t : Table} {joining : List ℕ} → SamePriorities x t → InTurn t joining x.queues
     → InTurn t (joining ++ mark_of s ∷ []) (woken x (mark_of s) o).queues
 unfolding woken_up_to pushed_row
@@ -147,7 +147,7 @@ one_joins_last {n} {used} {x = x} f s task_free o good =
 
 -- A queue that is no ready queue is woken whole.
 module _ {n used a : ℕ} {t : Table} (f : Rules n used a t) (k : ℕ) (other : priorities ≤ k) (l : k < queues_for n)
-    (o : Result) (good : good_result used o ≡ true) where
+    (o : Outcome) (good : good_result used o ≡ true) where
   abbrev left : Table
   left = with_queue t k (emptied (queue_at t k))
 

@@ -13,7 +13,7 @@ use Rattle.tid.specs.Sizes.{area_bytes}
 use Rattle.tid.specs.Tid.{tid_of}
 use Rattle.tid.proofs.Trips.{slot_of_mark}
 use Rattle.task.specs.declared.task.Buffer.{Buffer}
-use Rattle.task.specs.declared.task.Result.TheVariants.{Value}
+use Rattle.task.specs.declared.task.Outcome.TheVariants.{Value}
 use Rattle.task.specs.declared.task.State.TheVariants.{Ready, SendBlocked, ReplyBlocked}
 use Rattle.task.specs.declared.task.Task.{Task}
 use Rattle.task.specs.Task.{good_buffer, message_of, reply_of}

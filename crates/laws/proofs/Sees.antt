@@ -13,8 +13,8 @@ use Rattle.queue.specs.Row.{place_at, count}
 use Rattle.queue.proofs.Below.{both_true, true_both}
 use Rattle.tid.specs.Tid.{slot_of}
 use Rattle.tid.proofs.Trips.{slot_of_mark}
-use Rattle.task.specs.declared.task.Result.{Result}
-use Rattle.task.specs.declared.task.Result.TheVariants.{Nothing}
+use Rattle.task.specs.declared.task.Outcome.{Outcome}
+use Rattle.task.specs.declared.task.Outcome.TheVariants.{Nothing}
 use Rattle.task.specs.declared.task.State.{State}
 use Rattle.task.specs.declared.task.State.TheVariants.{Unused, Active, Ready, SendBlocked, ReceiveBlocked, ReplyBlocked, EventBlocked, Exited}
 use Rattle.task.specs.declared.task.Task.{Task}
@@ -174,7 +174,7 @@ module _ {n : ℕ} {t : Table} (good : Good n t) (r : Request) (enters : Enters 
       go (waits next task) new = rw task new
 
   -- what holds of nothing, and of the result that each used task is left with, holds of all that an entry tells
-  pub entry_tells : (P : ℕ → Result → Type 0) → ((s : ℕ) → P s Nothing) → ((s : ℕ) → s < used_slots t → P s (left t r s).result)
+  pub entry_tells : (P : ℕ → Outcome → Type 0) → ((s : ℕ) → P s Nothing) → ((s : ℕ) → s < used_slots t → P s (left t r s).result)
       → AllTold P (settled a u)
   unfolding settled
   entry_tells P none used =

@@ -19,8 +19,8 @@ use Rattle.queue.proofs.Rules.{empty_row_lem, alone_row_lem}
 use Rattle.tid.specs.Sizes.{priorities, events}
 use Rattle.tid.specs.Tid.{mark_of, slot_of, tid_of, slot_named}
 use Rattle.tid.proofs.Trips.{slot_of_mark}
-use Rattle.task.specs.declared.task.Result.{Result}
-use Rattle.task.specs.declared.task.Result.TheVariants.{Nothing}
+use Rattle.task.specs.declared.task.Outcome.{Outcome}
+use Rattle.task.specs.declared.task.Outcome.TheVariants.{Nothing}
 use Rattle.task.specs.declared.task.State.{State}
 use Rattle.task.specs.declared.task.State.TheVariants.{Ready}
 use Rattle.task.specs.declared.task.Task.{Task}
@@ -97,7 +97,7 @@ module _ {n : ℕ} {t : Table} (good : Good n t) (r : Request) where
       }
 
   -- where the table stays as it is
-  rests : {st : State} {o : Result} → ((s : ℕ) → s ≢ a → others_left t r s ≡ task_at t s)
+  rests : {st : State} {o : Outcome} → ((s : ℕ) → s ≢ a → others_left t r s ≡ task_at t s)
       → Leaves n t r (record { table = t; woken = empty_row places; told = Nothing; state = st; result = o; effect = Keep })
   rests = aside refl refl (λ _ _. refl)
 
@@ -291,7 +291,7 @@ module _ {n : ℕ} {t : Table} (good : Good n t) (r : Request) where
   sender_waits c s code named = rw (code, named, slot_of_mark c)
 
   -- a queue that is no ready queue is woken whole: who stands in it is told o, and nobody else is concerned
-  row_leaves : (k : ℕ) {o v : Result} {st : State} → priorities ≤ k → k < queues_for n
+  row_leaves : (k : ℕ) {o v : Outcome} {st : State} → priorities ≤ k → k < queues_for n
       → ((s : ℕ) → s < used_slots t → standing n (task_at t s) ≡ k → others_left t r s ≡ task_as Ready o (task_at t s))
       → ((s : ℕ) → standing n (task_at t s) ≢ k → others_left t r s ≡ task_at t s)
       → let q = queue_at t k in

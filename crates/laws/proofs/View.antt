@@ -20,8 +20,8 @@ use Rattle.queue.proofs.Below.{by_test, first_below_lem}
 use Rattle.tid.specs.Sizes.{priorities}
 use Rattle.tid.specs.Tid.{mark_of, slot_of, tid_of, slot_named}
 use Rattle.tid.proofs.Trips.{slot_of_mark}
-use Rattle.task.specs.declared.task.Result.{Result}
-use Rattle.task.specs.declared.task.Result.TheVariants.{Nothing}
+use Rattle.task.specs.declared.task.Outcome.{Outcome}
+use Rattle.task.specs.declared.task.Outcome.TheVariants.{Nothing}
 use Rattle.task.specs.declared.task.State.{State}
 use Rattle.task.specs.declared.task.State.TheVariants.{Ready}
 use Rattle.task.specs.declared.task.Task.{Task}
@@ -67,7 +67,7 @@ module _ (P : ℕ → Type 0) where
         | no past ↦ let out : length t.queues ≤ k = omega arith in rw (set_out t.queues k q out) (old p low)
       ]
 
-  heads_up_to : (t : Table) (q : Queue) (o : Result) → Heads P t → ((p : ℕ) → p < count q → P (place_at q p))
+  heads_up_to : (t : Table) (q : Queue) (o : Outcome) → Heads P t → ((p : ℕ) → p < count q → P (place_at q p))
       → (i : ℕ) → i ≤ count q → Heads P (woken_up_to t q o i)
   unfolding woken_up_to woken joined
   heads_up_to t q o old new zero h = old
@@ -75,10 +75,10 @@ module _ (P : ℕ → Type 0) where
       heads_queued (left_as (woken_up_to t q o i) (slot_of (place_at q i)) Ready o) _ (place_at q i)
       (heads_up_to t q o old new i (omega arith)) (new i (omega arith))
 
-  pub heads_woken : (t : Table) (q : Queue) (o : Result) → Heads P t → ((p : ℕ) → p < count q → P (place_at q p)) → Heads P (woken_row t q o)
+  pub heads_woken : (t : Table) (q : Queue) (o : Outcome) → Heads P t → ((p : ℕ) → p < count q → P (place_at q p)) → Heads P (woken_row t q o)
   heads_woken t q o old new = heads_up_to t q o old new (count q) (omega arith)
 
-  pub heads_rejoined : (t : Table) (c : ℕ) (st : State) (o : Result) → Heads P t → (c < slots t → is_ready st ≡ true → P (mark_of c))
+  pub heads_rejoined : (t : Table) (c : ℕ) (st : State) (o : Outcome) → Heads P t → (c < slots t → is_ready st ≡ true → P (mark_of c))
       → Heads P (rejoined t c st o)
   unfolding rejoined joined
   heads_rejoined t c st o old new =
@@ -90,12 +90,12 @@ module _ (P : ℕ → Type 0) where
 
 -- WHAT BECOMES OF THE RECORD OF SLOT s
 
-woken_here : (t : Table) (mark : ℕ) (o : Result) → slot_of mark < slots t → task_at (woken t mark o) (slot_of mark) ≡ task_as Ready o (task_at t (slot_of mark))
+woken_here : (t : Table) (mark : ℕ) (o : Outcome) → slot_of mark < slots t → task_at (woken t mark o) (slot_of mark) ≡ task_as Ready o (task_at t (slot_of mark))
 unfolding woken joined queued
 woken_here t mark o h = get_or-set_same t.tasks (slot_of mark) _ no_task h
 
 -- it stands in the row that is woken, or it does not
-module _ (t : Table) (q : Queue) (o : Result) (s : ℕ) where
+module _ (t : Table) (q : Queue) (o : Outcome) (s : ℕ) where
   row_out : ((p : ℕ) → p < count q → slot_of (place_at q p) ≢ s) → (i : ℕ) → i ≤ count q → task_at (woken_up_to t q o i) s ≡ task_at t s
   unfolding woken_up_to
   row_out out zero h = refl
@@ -127,7 +127,7 @@ module _ (t : Table) (q : Queue) (o : Result) (s : ℕ) where
         ]
 
 -- whoever belongs in the row is woken, and nobody else
-pub row_seen : {n : ℕ} {w : ℕ → Bool} {q : Queue} (t : Table) (o : Result) (s : ℕ) → RowFacts n w q → slots t ≡ n → s < n
+pub row_seen : {n : ℕ} {w : ℕ → Bool} {q : Queue} (t : Table) (o : Outcome) (s : ℕ) → RowFacts n w q → slots t ≡ n → s < n
     → task_at (woken_row t q o) s ≡ choose (w s) (task_as Ready o (task_at t s)) (task_at t s)
 row_seen {n} {w} {q} t o s row size below =
     by_test (w s)
@@ -137,13 +137,13 @@ row_seen {n} {w} {q} t o s row size below =
     (λ none.
     rw none (row_out t q o s (λ p h e. clash (row.belongs p (omega (arith, row.fits))) (ap w e ∙ none)) (count q) (omega arith)))
 
-pub rejoined_here : (t : Table) (c : ℕ) (st : State) (o : Result) → c < slots t → task_at (rejoined t c st o) c ≡ task_as st o (task_at t c)
+pub rejoined_here : (t : Table) (c : ℕ) (st : State) (o : Outcome) → c < slots t → task_at (rejoined t c st o) c ≡ task_as st o (task_at t c)
 unfolding rejoined joined queued
 rejoined_here t c st o h =
     rw (lt-ltb c (slots t) h)
     (through (λ (t : Table). task_at t c) (is_ready st) _ _ ∙ choose_same (is_ready st) _ ∙ get_or-set_same t.tasks c _ no_task h)
 
-pub rejoined_other : (t : Table) (c : ℕ) (st : State) (o : Result) (s : ℕ) → s ≢ c → task_at (rejoined t c st o) s ≡ task_at t s
+pub rejoined_other : (t : Table) (c : ℕ) (st : State) (o : Outcome) (s : ℕ) → s ≢ c → task_at (rejoined t c st o) s ≡ task_at t s
 unfolding rejoined joined queued
 rejoined_other t c st o s other =
     chosen (λ (t' : Table). task_at t' s ≡ task_at t s) (ltb c (slots t))
@@ -174,12 +174,12 @@ dispatch_seen s e t here ready =
     (λ _. waits (λ e. omega arith) refl)
 
 -- P holds of what each task holds after a step, and of what the task that runs next is told
-pub record AllTold (P : ℕ → Result → Type 0) (d : Decision) : Type 0 where
+pub record AllTold (P : ℕ → Outcome → Type 0) (d : Decision) : Type 0 where
   pub held : (s : ℕ) → P s (task_at d.table s).result
   pub shown : P (slot_named d.answer.next) d.answer.result
 
 -- who runs next is told what it held, and holds nothing any more
-pub dispatch_tells : (P : ℕ → Result → Type 0) → ((s : ℕ) → P s Nothing) → (e : Effect) (t : Table) → ((s : ℕ) → P s (task_at t s).result)
+pub dispatch_tells : (P : ℕ → Outcome → Type 0) → ((s : ℕ) → P s Nothing) → (e : Effect) (t : Table) → ((s : ℕ) → P s (task_at t s).result)
     → AllTold P (dispatched e t)
 unfolding dispatched activated
 dispatch_tells P none e t all =

@@ -16,7 +16,7 @@ use Rattle.queue.specs.Row.{members, count, emptied, pushed_row}
 use Rattle.queue.specs.Rows.{no_row}
 use Rattle.queue.proofs.Rules.{room}
 use Rattle.queue.proofs.Turns.{pushed_members}
-use Rattle.task.specs.declared.task.Result.TheVariants.{Nothing}
+use Rattle.task.specs.declared.task.Outcome.TheVariants.{Nothing}
 use Rattle.task.specs.declared.task.State.TheVariants.{Ready, EventBlocked}
 use Rattle.task.specs.declared.task.Task.{Task}
 use Rattle.task.specs.Task.{state_code}

@@ -1,7 +1,7 @@
 -- The laws at their borders: cases that hold, and the next ones that do not, so that no word of a law could be loosened unseen.
 use Rattle.std.specs.Prelude.{ℕ, suc, ◌<◌, ◌≡◌, Bool, true, false, List, [], ◌∷◌, map}
 use Rattle.tid.specs.Sizes.{slot_count, priorities, events, area_bytes}
-use Rattle.task.specs.declared.task.Result.TheVariants.{Value, Fault}
+use Rattle.task.specs.declared.task.Outcome.TheVariants.{Value, Fault}
 use Rattle.task.specs.Task.{first_negative}
 use Rattle.kernel.specs.declared.table.Table.{Table}
 use Rattle.kernel.specs.declared.table.Request.{Request}

@@ -3,7 +3,7 @@
 use Rattle.std.specs.Prelude.{ℕ, ◌≡◌, Bool, false, ◌&&◌, ◌||◌, List, [], ◌∷◌, map, ltb, eqb}
 use Rattle.queue.specs.Choose.{choose}
 use Rattle.tid.specs.Tid.{slot_named}
-use Rattle.task.specs.declared.task.Result.TheVariants.{Nothing, Value}
+use Rattle.task.specs.declared.task.Outcome.TheVariants.{Nothing, Value}
 use Rattle.task.specs.Result.{result_cut}
 use Rattle.kernel.specs.declared.table.Table.{Table}
 use Rattle.kernel.specs.declared.table.Request.{Request}

@@ -4,7 +4,7 @@ use Rattle.std.specs.Prelude.{ℕ, ◌<◌, ◌≡◌, true, List, length, eqb}
 use Rattle.queue.specs.Choose.{choose}
 use Rattle.queue.specs.Numbering.{send_queue}
 use Rattle.queue.specs.Row.{members}
-use Rattle.task.specs.declared.task.Result.TheVariants.{Nothing, Fault}
+use Rattle.task.specs.declared.task.Outcome.TheVariants.{Nothing, Fault}
 use Rattle.task.specs.declared.task.State.TheVariants.{Ready, Exited}
 use Rattle.task.specs.declared.task.Task.{Task}
 use Rattle.task.specs.Task.{awaited, is_receive_blocked, task_as}

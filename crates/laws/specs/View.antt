@@ -7,8 +7,8 @@ use Rattle.queue.specs.Row.{place_at}
 use Rattle.tid.specs.Sizes.{area_bytes}
 use Rattle.tid.specs.Tid.{mark_of, tid_of}
 use Rattle.task.specs.declared.task.Buffer.{Buffer}
-use Rattle.task.specs.declared.task.Result.{Result}
-use Rattle.task.specs.declared.task.Result.TheVariants.{Nothing, Value, Fault}
+use Rattle.task.specs.declared.task.Outcome.{Outcome}
+use Rattle.task.specs.declared.task.Outcome.TheVariants.{Nothing, Value, Fault}
 use Rattle.task.specs.declared.task.State.TheVariants.{Active, Ready, SendBlocked, ReplyBlocked}
 use Rattle.task.specs.declared.task.Task.{Task}
 use Rattle.task.specs.Task.{first_negative, good_buffer, message_of, reply_of, awaited, is_send_blocked, is_receive_blocked, is_reply_blocked, is_event_blocked, task_as}
@@ -114,7 +114,7 @@ abbrev pub bytes_at : ℕ → ℕ → ℕ → List ℕ → List ℕ
 bytes_at s offset n xs = take n (drop (place_in s offset) xs)
 
 -- a task is ready and holds a result, or it runs next and is shown it
-pub data Gets (s : ℕ) (o : Result) (d : Decision) : Type 0 where
+pub data Gets (s : ℕ) (o : Outcome) (d : Decision) : Type 0 where
   holds : (task_at d.table s).state ≡ Ready → (task_at d.table s).result ≡ o → Gets s o d
   shown : d.answer.next ≡ tid_of s → d.answer.result ≡ o → Gets s o d
 

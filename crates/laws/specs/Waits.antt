@@ -6,7 +6,7 @@ use Rattle.tid.specs.Tid.{mark_of}
 use Rattle.queue.specs.Choose.{choose}
 use Rattle.queue.specs.Numbering.{event_queue}
 use Rattle.queue.specs.Row.{members}
-use Rattle.task.specs.declared.task.Result.TheVariants.{Nothing}
+use Rattle.task.specs.declared.task.Outcome.TheVariants.{Nothing}
 use Rattle.task.specs.declared.task.State.TheVariants.{Ready, EventBlocked}
 use Rattle.task.specs.declared.task.Task.{Task}
 use Rattle.task.specs.Task.{task_as}

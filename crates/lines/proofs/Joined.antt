@@ -1,9 +1,13 @@
 -- Texts put one behind the other.
-use Rattle.std.proofs.Common.{◌≡◌, ℕ, zero, suc, ◌+◌, ◌/◌, ◌<◌, ◌≤◌, max, ltb, List, [], ◌∷◌, ◌++◌, length, set, sym, refl, ap, ◌∙◌, add-zero, arith, length-append, le-ltb, lt-ltb}
+use Rattle.std.proofs.Common.{◌≡◌, ℕ, zero, suc, ◌+◌, ◌/◌, ◌<◌, ◌≤◌, max, ltb, Bool, true, false, List, [], ◌∷◌, ◌++◌, length, get_or, take, set, sym, refl, ap, ◌∙◌, add-zero, add-one, arith, length-append, le-ltb, lt-ltb}
+use mir.Val.{bool_byte}
 use native.Mathlib.Decide.{dec_lt}
-use lib.Seq.{sets, length-sets}
+use lib.Seq.{sets, length-sets, take-suc}
 use Rattle.queue.specs.Choose.{choose}
+use Rattle.task.specs.Result.{bit}
 use Rattle.step.proofs.Copies.{sets_out}
+use Rattle.lines.specs.declared.text.Line.{Line}
+use Rattle.lines.specs.Written.{Written}
 use Rattle.lines.specs.Text.{Appended, digit, digits, decimal}
 
 -- a run of stores in two parts
@@ -40,6 +44,18 @@ then {before} {mid} {after} {at} {mark} {end} {xs} {ys} p q =
 pub known_as : {before after : List ℕ} {at end : ℕ} {xs ys : List ℕ} → xs ≡ ys → Appended before at xs after end → Appended before at ys after end
 known_as e p = rw (← e) p
 
+-- the same of what a line has written
+pub unwritten : {l : Line} → Written l [] l
+unwritten = record { put = nothing; same = refl }
+
+pub and_then : {before mid after : Line} {xs ys : List ℕ} → Written before xs mid → Written mid ys after → Written before (xs ++ ys) after
+and_then p q = record { put = then p.put q.put; same = q.same ∙ p.same }
+
+-- one byte of a text more
+pub one_more : {before mid after : Line} (xs : List ℕ) (i : ℕ) → i < length xs
+    → Written before (take i xs) mid → Written mid (get_or xs i 0 ∷ []) after → Written before (take (i + 1) xs) after
+one_more xs i h p q = rw (add-one, take-suc xs i 0 h) (and_then p q)
+
 -- a digit more or less to spare makes no difference
 digits_spare : (k j n : ℕ) → n ≤ k → n ≤ j → digits k n ≡ digits j n
 unfolding digits
@@ -62,3 +78,8 @@ unfolding digits
 decimal_more zero h = absurd (omega arith)
 decimal_more (suc k) h =
     rw (le-ltb (suc k) 10 h) (ap (λ (d : List ℕ). d ++ (digit (suc k) ∷ [])) (digits_spare (suc k / 10) k (suc k / 10) (omega arith) (omega arith)))
+
+-- what a bool is as a number
+pub bit_is : (b : Bool) → bool_byte b ≡ bit b
+bit_is true = refl
+bit_is false = refl

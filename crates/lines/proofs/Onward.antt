@@ -1,5 +1,7 @@
 -- A run that goes on from where another ends, and its lines.
-use Rattle.std.proofs.Common.{◌≡◌, ℕ, ◌+◌, ◌-◌, ◌*◌, ◌<◌, ◌≤◌, Bool, List, [], ◌∷◌, ◌++◌, length, refl, ap, ◌∙◌, append_assoc, mul-add, add-one, arith, length-append}
+use Rattle.std.proofs.Common.{◌≡◌, ℕ, ◌+◌, ◌*◌, ◌≤◌, Bool, List, [], ◌∷◌, ◌++◌, length, take, drop, sym, refl, ap, ◌∙◌, append_assoc, mul-add, add-one, arith, length-append, length-drop}
+use native.Mathlib.Nat.{add-mul}
+use lib.Seq.{take_at, drop_at, drop-drop}
 use Rattle.kernel.specs.declared.table.Request.{Request}
 use Rattle.step.specs.Run.{Done, run, last_of}
 use Rattle.step.proofs.Runs.{run_append, last_append}
@@ -9,9 +11,17 @@ use Rattle.image.specs.Call.{request_length, request_from}
 use Rattle.lines.specs.Block.{Standing, Ran, following, lines_from, number_after, requests_in, ran}
 use Rattle.lines.proofs.Joined.{nothing, then, known_as}
 
--- one turn less is left
-pub fewer : (i n : ℕ) → i < n → n - (i + 1) < n - i
-fewer i n h = omega arith
+-- a record more at the front of the bytes that are left
+pub front_is : (w k : ℕ) (bytes r rest : List ℕ) → drop (k * w) bytes ≡ r ++ rest → length r ≡ w → r ≡ record_at w bytes k
+front_is w k bytes r rest e size = sym (take_at r rest w size) ∙ ap (take w) (sym e)
+
+pub front_fits : (w k : ℕ) (bytes r rest : List ℕ) → k * w ≤ length bytes → drop (k * w) bytes ≡ r ++ rest → length r ≡ w → (k + 1) * w ≤ length bytes
+front_fits w k bytes r rest within e size = omega (arith, add-mul k 1 w, simp (length-drop, length-append) at (ap length e))
+
+pub behind_front : (w k : ℕ) (bytes r rest : List ℕ) → drop (k * w) bytes ≡ r ++ rest → length r ≡ w → rest ≡ drop ((k + 1) * w) bytes
+behind_front w k bytes r rest e size =
+    let next : k * w + w ≡ (k + 1) * w = omega (arith, add-mul k 1 w) in
+    sym (drop_at r rest w size) ∙ ap (drop w) (sym e) ∙ drop-drop w (k * w) bytes ∙ ap (λ (i : ℕ). drop i bytes) next
 
 number_append : (k : ℕ) (u w : List Done) → number_after k (u ++ w) ≡ number_after (number_after k u) w
 unfolding number_after

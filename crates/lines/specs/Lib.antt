@@ -1,4 +1,5 @@
 pub mod Text
+pub mod Written
 pub mod Line
 pub mod State
 pub mod Block

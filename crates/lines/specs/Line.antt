@@ -1,7 +1,7 @@
 -- What a step shows as: one line of text.
 use Rattle.std.specs.Prelude.{ℕ, List, [], ◌∷◌, ◌++◌, ◌==◌}
 use Rattle.queue.specs.Choose.{choose}
-use Rattle.task.specs.declared.task.Result.{Result}
+use Rattle.task.specs.declared.task.Outcome.{Outcome}
 use Rattle.task.specs.Result.{result_kind, result_word, result_from, result_cut}
 use Rattle.kernel.specs.declared.table.Answer.{Answer}
 use Rattle.kernel.specs.Numbers.{accepted, bad_record}
@@ -36,7 +36,7 @@ unfoldable pub verdict_text : ℕ → List ℕ
 verdict_text v = choose (v == accepted) ok (letter_r ∷ decimal v)
 
 -- a minus for nothing; v, the value, from, and whether it was cut; e and the fault, a negative word
-unfoldable pub result_text : Result → List ℕ
+unfoldable pub result_text : Outcome → List ℕ
 result_text o =
     choose (result_kind o == 0) (minus ∷ [])
     (choose (result_kind o == 1) (letter_v ∷ space ∷ signed (result_word o) ++ space ∷ decimal (result_from o) ++ space ∷ decimal (result_cut o))

@@ -2,15 +2,17 @@
 ghost use Rattle.std.specs.Prelude.{◌≡◌, ◌*◌, ◌/◌, ◌≤◌, [], ◌∷◌, length, take};
 ghost use Rattle.image.specs.Call.{request_length, request_from};
 ghost use Rattle.queue.specs.Choose.{choose};
-ghost use Rattle.lines.specs.Line.{line_of, longest};
-ghost use Rattle.lines.specs.State.{wide_line_of, longest_wide};
-ghost use Rattle.lines.specs.Text.{Appended};
+ghost use Rattle.lines.specs.Line.{longest};
+ghost use Rattle.lines.specs.State.{longest_wide};
+ghost use Rattle.lines.specs.Written.{Written};
 ghost use Rattle.lines.specs.Block.{Ran, fresh_block, ran, requests, end_of, showed, room_for};
 
-use crate::shown::{line, put_end};
+use crate::shown::line;
 use crate::state::wide_line;
+use crate::text::Line;
 use image::call::{REQUEST, request_from};
-use kernel::table::{Decision, Table};
+use kernel::refusal::Refusal;
+use kernel::table::Table;
 use rules::start;
 use step::step;
 
@@ -27,31 +29,24 @@ pub fn fresh_block(edition: u32, priority: u32, entry: u32) -> Block
     ensures { result ≡ fresh_block edition priority entry }
 {
     let started = start(edition, priority, entry);
-    let table = started.table;
     Block {
-        table,
+        table: started.table,
         step: 1,
         end: 0,
     }
 }
 
-// The line of a step, wide or not.
-fn put_line(
-    out: &mut [u8],
-    at: usize,
-    step: u64,
-    kind: u32,
-    decision: Decision,
-    wide: bool,
-) -> usize
-    ensures appended { Appended out.old at (choose wide (wide_line_of step kind decision) (line_of step kind decision.answer)) out.new result }
-    ensures short { length (choose wide (wide_line_of step kind decision) (line_of step kind decision.answer)) ≤ choose wide longest_wide longest }
-{
-    if wide {
-        return wide_line(&mut *out, at, step, kind, decision);
+impl<'a> Line<'a> {
+    // What follows the lines of so many bytes: a line more where they do not end with a whole record.
+    fn end(&mut self, count: usize)
+        ensures { Written self.old (end_of count) self.new }
+    {
+        if count % REQUEST != 0 {
+            self.text(b"end ");
+            self.verdict(Refusal::BadRecord.number());
+            self.put(b'\n');
+        }
     }
-    let answer = decision.answer;
-    line(&mut *out, at, step, kind, answer)
 }
 
 // One record stepped, and its line.
@@ -59,14 +54,16 @@ fn step_one(b: Block, bytes: &[u8], areas: &mut [u8], out: &mut [u8], wide: bool
     ensures ran { Ran (ran wide b areas.old (request_from bytes.now ∷ [])) b out.old result areas.new out.new }
     ensures short { length (ran wide b areas.old (request_from bytes.now ∷ [])).text ≤ choose wide longest_wide longest }
 {
-    let table = b.table;
     let r = request_from(bytes);
-    let decision = step(table, r, &mut *areas);
-    let next = decision.table;
-    let end = put_line(&mut *out, b.end, b.step, r.kind, decision, wide);
+    let decision = step(b.table, r, areas);
+    let end = if wide {
+        wide_line(out, b.end, b.step, r.kind, decision)
+    } else {
+        line(out, b.end, b.step, r.kind, decision.answer)
+    };
     Block {
-        table: next,
-        step: std::num::wrapping_add_u64(b.step, 1),
+        table: decision.table,
+        step: b.step.wrapping_add(1),
         end,
     }
 }
@@ -76,26 +73,11 @@ fn run_block(first: Block, records: &[u8], areas: &mut [u8], out: &mut [u8], wid
     ensures ran { Ran (ran wide first areas.old (requests records.now)) first out.old result areas.new out.new }
     ensures short { length (ran wide first areas.old (requests records.now)).text ≤ choose wide longest_wide longest * (length records.now / request_length) }
 {
-    let count = records.len() / REQUEST;
     let mut b = first;
-    let mut i = 0;
-    while i < count {
-        let at = i * REQUEST;
-        let next = at + REQUEST;
-        b = step_one(b, &records[at..next], &mut *areas, &mut *out, wide);
-        i += 1;
+    for record in records.chunks_exact(REQUEST) {
+        b = step_one(b, record, areas, out, wide);
     }
     b
-}
-
-// What follows the lines of `count` bytes at the end of the input: a line more where they do not end with a whole record.
-fn end_block(count: usize, out: &mut [u8], at: usize) -> usize
-    ensures { Appended out.old at (end_of count) out.new result }
-{
-    if count % REQUEST == 0 {
-        return at;
-    }
-    put_end(&mut *out, at)
 }
 
 // A block: its lines put behind what the buffer holds, with the line for an incomplete record. Where the buffer has room for
@@ -110,12 +92,12 @@ pub fn show_block(
     ensures ran { Ran (showed wide first areas.old records.now) first out.old result areas.new out.new }
     ensures whole { first.end ≡ 0 → room_for wide (length records.now) ≤ length out.old → take result.end out.new ≡ (showed wide first areas.old records.now).text }
 {
-    let done = run_block(first, records, &mut *areas, &mut *out, wide);
-    let table = done.table;
-    let end = end_block(records.len(), &mut *out, done.end);
+    let done = run_block(first, records, areas, out, wide);
+    let mut line = Line::new(out, done.end);
+    line.end(records.len());
     Block {
-        table,
+        table: done.table,
         step: done.step,
-        end,
+        end: line.at,
     }
 }

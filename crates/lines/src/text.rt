@@ -1,53 +1,76 @@
-// Text put into a lent buffer from a place on. Each function answers the place behind what it put there; what does not fit
-// is cut at the buffer's end.
+// Text put into a lent buffer.
 ghost use Rattle.std.specs.Prelude.{◌≡◌, [], ◌∷◌};
-ghost use Rattle.lines.specs.Text.{Appended, digit, decimal, signed};
-ghost use Rattle.lines.specs.Line.{space};
+ghost use Rattle.lines.specs.Text.{digit, decimal, signed};
+ghost use Rattle.lines.specs.Written.{Written};
 
 use task::task::FIRST_NEGATIVE;
 
-pub(crate) fn put(out: &mut [u8], at: usize, byte: u8) -> usize
-    ensures { Appended out.old at (byte ∷ []) out.new result }
-{
-    if at < out.len() {
-        out[at] = byte;
-        return at + 1;
-    }
-    at
+// A lent buffer, and the place where what is put next goes. What does not fit is cut at the buffer's end.
+#[derive(Drop)]
+pub(crate) struct Line<'a> {
+    pub(crate) out: &'a mut [u8],
+    pub(crate) at: usize,
 }
 
 fn digit(n: u64) -> u8
     ensures { result ≡ digit n }
 {
-    (n % 10) as u8 + 48
+    (n % 10) as u8 + b'0'
 }
 
-// A number in decimal, its first digit first.
-pub(crate) fn put_decimal(out: &mut [u8], at: usize, n: u64) -> usize
-    ensures { Appended out.old at (decimal n) out.new result }
-{
-    if n < 10 {
-        return put(&mut *out, at, digit(n));
+impl<'a> Line<'a> {
+    pub(crate) fn new(out: &'a mut [u8], at: usize) -> Line<'a>
+        ensures lent { result.out.now ≡ out.old }
+        ensures same { result.out.ghost_name ≡ out.entry.ghost_name }
+        ensures at { result.at ≡ at }
+    {
+        Line { out, at }
     }
-    let end = put_decimal(&mut *out, at, n / 10);
-    put(&mut *out, end, digit(n))
-}
 
-// A word of 32 bits, which is negative from 2^31 on.
-pub(crate) fn put_signed(out: &mut [u8], at: usize, w: u32) -> usize
-    ensures { Appended out.old at (signed w) out.new result }
-{
-    if w < FIRST_NEGATIVE {
-        return put_decimal(&mut *out, at, w as u64);
+    pub(crate) fn put(&mut self, byte: u8)
+        ensures { Written self.old (byte ∷ []) self.new }
+    {
+        if self.at < self.out.len() {
+            self.out[self.at] = byte;
+            self.at += 1;
+        }
     }
-    let end = put(&mut *out, at, b'-');
-    put_decimal(&mut *out, end, 4294967296 - w as u64)
-}
 
-// A space, and a number behind it.
-pub(crate) fn put_next(out: &mut [u8], at: usize, n: u64) -> usize
-    ensures { Appended out.old at (space ∷ decimal n) out.new result }
-{
-    let end = put(&mut *out, at, b' ');
-    put_decimal(&mut *out, end, n)
+    pub(crate) fn text(&mut self, bytes: &[u8])
+        ensures { Written self.old bytes.now self.new }
+    {
+        for byte in bytes {
+            self.put(*byte);
+        }
+    }
+
+    // A number in decimal, its first digit first.
+    pub(crate) fn decimal(&mut self, n: u64)
+        ensures { Written self.old (decimal n) self.new }
+    {
+        if 10 <= n {
+            self.decimal(n / 10);
+        }
+        self.put(digit(n));
+    }
+
+    // A word of 32 bits, which is negative from 2^31 on.
+    pub(crate) fn signed(&mut self, w: u32)
+        ensures { Written self.old (signed w) self.new }
+    {
+        if w < FIRST_NEGATIVE {
+            self.decimal(u64::from(w));
+        } else {
+            self.put(b'-');
+            self.decimal(u64::from(w.wrapping_neg()));
+        }
+    }
+
+    // A number behind a mark.
+    pub(crate) fn behind(&mut self, mark: u8, n: u64)
+        ensures { Written self.old (mark ∷ decimal n) self.new }
+    {
+        self.put(mark);
+        self.decimal(n);
+    }
 }

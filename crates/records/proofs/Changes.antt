@@ -9,7 +9,7 @@ use native.Mathlib.Decide.{dec_lt}
 use Rattle.queue.specs.Numbering.{queues_for}
 use Rattle.tid.specs.Tid.{mark_of}
 use Rattle.queue.specs.Row.{place_of}
-use Rattle.task.specs.declared.task.Result.{Result}
+use Rattle.task.specs.declared.task.Outcome.{Outcome}
 use Rattle.task.specs.declared.task.State.{State}
 use Rattle.task.specs.declared.task.Task.{Task}
 use Rattle.task.specs.Task.{is_used, task_as}
@@ -46,6 +46,6 @@ one_written r t' s x place l in_use task stands others =
 
 -- the task that a record has in another state is the table's
 pub left_is : {n used a : ℕ} {w : ℕ → Bool} {t : Table} {b count : List ℕ} → Stage n used a w t b count
-    → (s : ℕ) → s < n → (st : State) (o : Result) (place : ℕ)
+    → (s : ℕ) → s < n → (st : State) (o : Outcome) (place : ℕ)
     → left_bytes b s st o place ≡ with_record b s (fields (task_as st o (task_at t s)) place)
 left_is g s h st o place = rw (byte_priority g s h, byte_parent g s h, entry_at_lem g s h)

@@ -4,8 +4,8 @@ use mathlib.Core.Path.{◌≡◌, refl}
 use mathlib.Core.Bool.{true, false}
 use mathlib.Core.List.{List}
 use native.Mathlib.Omega.{arith}
-use Rattle.task.specs.declared.task.Result.{Result}
-use Rattle.task.specs.declared.task.Result.TheVariants.{Nothing, Value, Fault}
+use Rattle.task.specs.declared.task.Outcome.{Outcome}
+use Rattle.task.specs.declared.task.Outcome.TheVariants.{Nothing, Value, Fault}
 use Rattle.task.specs.Result.{result_kind, result_cut}
 use Rattle.kernel.specs.Table.{task_at}
 use Rattle.image.specs.Record.{at_result, at_cut, byte_at}
@@ -14,7 +14,7 @@ use Rattle.image.proofs.Laws.{write_back}
 use Rattle.records.proofs.Images.{read_records}
 use Rattle.records.proofs.Tasks.{kind_told, cut_told}
 
-cut_needs_value_lem : (o : Result) → (result_cut o ≤ 1) × (result_cut o ≡ 1 → result_kind o ≡ 1)
+cut_needs_value_lem : (o : Outcome) → (result_cut o ≤ 1) × (result_cut o ≡ 1 → result_kind o ≡ 1)
 cut_needs_value_lem Nothing = (omega arith, λ e. absurd (omega arith))
 cut_needs_value_lem (Value from true v) = (omega arith, λ _. refl)
 cut_needs_value_lem (Value from false v) = (omega arith, λ _. refl)

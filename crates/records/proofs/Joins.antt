@@ -15,8 +15,8 @@ use Rattle.queue.specs.Row.{pushed_row}
 use Rattle.queue.specs.Rows.{no_row}
 use Rattle.queue.proofs.Turns.{pushed_len}
 use Rattle.queue.proofs.Rules.{room}
-use Rattle.task.specs.declared.task.Result.{Result}
-use Rattle.task.specs.declared.task.Result.TheVariants.{Nothing}
+use Rattle.task.specs.declared.task.Outcome.{Outcome}
+use Rattle.task.specs.declared.task.Outcome.TheVariants.{Nothing}
 use Rattle.task.specs.declared.task.State.{State}
 use Rattle.task.specs.declared.task.State.TheVariants.{Ready}
 use Rattle.task.specs.declared.task.Task.{Task}
@@ -71,7 +71,7 @@ module _ {n used a : ℕ} {w : ℕ → Bool} {t : Table} {b count : List ℕ} (g
 
 module _ {n used a : ℕ} {w : ℕ → Bool} {t : Table} {b count : List ℕ} (g : Stage n used a w t b count) where
   -- a slot that stands in no queue becomes ready, and joins the tail of the queue of its priority; nobody else is being woken
-  pub joins_stage : (s after : ℕ) (o : Result) → s < used → key_of n w t s ≡ queues_for n → (a ≢ s → a ≡ after)
+  pub joins_stage : (s after : ℕ) (o : Outcome) → s < used → key_of n w t s ≡ queues_for n → (a ≢ s → a ≡ after)
       → good_result used o ≡ true → ((j : ℕ) → j < n → j ≢ s → w j ≡ false)
       → Stage n used after nobody (woken t (mark_of s) o) (joined_bytes b count s o) (joined_count b count s)
   unfolding joined_bytes joined_count

@@ -19,8 +19,8 @@ use Rattle.queue.specs.Row.{place_at, popped_row}
 use Rattle.queue.specs.Rows.{no_row}
 use Rattle.queue.proofs.Below.{by_test}
 use Rattle.queue.proofs.Turns.{popped_len}
-use Rattle.task.specs.declared.task.Result.{Result}
-use Rattle.task.specs.declared.task.Result.TheVariants.{Nothing}
+use Rattle.task.specs.declared.task.Outcome.{Outcome}
+use Rattle.task.specs.declared.task.Outcome.TheVariants.{Nothing}
 use Rattle.task.specs.declared.task.State.{State}
 use Rattle.task.specs.declared.task.State.TheVariants.{Active, ReplyBlocked}
 use Rattle.task.specs.declared.task.Task.{Task}
@@ -144,7 +144,7 @@ module _ {n used a : ℕ} {t : Table} {b count : List ℕ} (g : Stage n used a n
       number_same (closed_up code at key b used) b at' at' 4
       (λ d h. rw (add_assoc (s * record_length) at_entry d) (closed_byte g code at key used s (at_entry + d) (omega arith) (λ e. omega arith)))
 
-  pub closed_left : (st : State) (o : Result) (place : ℕ) → let s = head_at t k in
+  pub closed_left : (st : State) (o : Outcome) (place : ℕ) → let s = head_at t k in
       left_bytes (closed_up code at key b used) s st o place ≡ with_record (closed_up code at key b used) s (fields (task_as st o (task_at t s)) place)
   closed_left st o place =
       let s = head_at t k in

@@ -18,7 +18,7 @@ use Rattle.queue.specs.Numbering.{send_queue, queues_for}
 use Rattle.queue.specs.Row.{place_of}
 use Rattle.queue.specs.Facts.{RowFacts}
 use Rattle.queue.proofs.Places.{place_first, place_holds}
-use Rattle.task.specs.declared.task.Result.TheVariants.{Nothing}
+use Rattle.task.specs.declared.task.Outcome.TheVariants.{Nothing}
 use Rattle.task.specs.declared.task.State.{State}
 use Rattle.task.specs.declared.task.Task.{Task}
 use Rattle.task.specs.Task.{no_task, is_used, is_active, is_quiet, task_as}

@@ -19,7 +19,7 @@ use Rattle.queue.specs.Rows.{no_row}
 use Rattle.queue.specs.Facts.{RowFacts}
 use Rattle.queue.proofs.Turns.{popped_len, popped_place}
 use Rattle.queue.proofs.Refilled.{early_none, early_all}
-use Rattle.task.specs.declared.task.Result.{Result}
+use Rattle.task.specs.declared.task.Outcome.{Outcome}
 use Rattle.task.specs.declared.task.State.TheVariants.{Ready}
 use Rattle.task.specs.Task.{task_as}
 use Rattle.kernel.specs.declared.table.Table.{Table}
@@ -54,7 +54,7 @@ module _ {n used a : ℕ} {t : Table} {b count : List ℕ} (g : Stage n used a n
         long = g.long;
       }
 
-  pub wakes_stage : (o : Result) → good_result used o ≡ true → let s = head_at t k in
+  pub wakes_stage : (o : Outcome) → good_result used o ≡ true → let s = head_at t k in
       let c = closed_up code at key b used in
       Stage n used a nobody (woken (head_gone t k) (mark_of s) o) (joined_bytes c count s o) (joined_count c count s)
   unfolding joined_bytes joined_count
@@ -70,7 +70,7 @@ module _ {n used a : ℕ} {t : Table} {b count : List ℕ} (g : Stage n used a n
 -- One after the other.
 
 -- who is woken joins a ready queue: another stays, and could as well be replaced before
-module _ (x : Table) (k s : ℕ) (o : Result) (r : Queue) (l : s < slots x) (ne : (task_at x s).priority ≢ k) where
+module _ (x : Table) (k s : ℕ) (o : Outcome) (r : Queue) (l : s < slots x) (ne : (task_at x s).priority ≢ k) where
   woken_stays : k < length x.queues → queue_at (woken (with_queue x k r) (mark_of s) o) k ≡ r
   woken_stays inside =
       rw (woken_is (with_queue x k r) s o l, get_or-set_other (set x.queues k r) (task_at x s).priority k _ no_row (λ e. ne (sym e))) (get_or-set_same x.queues k r no_row inside)
@@ -88,7 +88,7 @@ module _ (x : Table) (k s : ℕ) (o : Result) (r : Queue) (l : s < slots x) (ne 
       )
 
 -- who is woken leaves the edition as it is
-pub woken_edition : (x : Table) (mark : ℕ) (o : Result) → (woken x mark o).edition ≡ x.edition
+pub woken_edition : (x : Table) (mark : ℕ) (o : Outcome) → (woken x mark o).edition ≡ x.edition
 unfolding woken joined queued
 woken_edition x mark o = refl
 
@@ -99,12 +99,12 @@ nobody_stands {q = q} f w size none =
     λ i. record { marks = marks i; len = none i }
 
 -- the table after as many heads of queue k as i says were woken
-unfoldable pub heads_woken : Table → ℕ → Result → ℕ → Table
+unfoldable pub heads_woken : Table → ℕ → Outcome → ℕ → Table
 heads_woken t k o zero = t
 heads_woken t k o (suc i) = let x = heads_woken t k o i in woken (head_gone x k) (mark_of (head_at x k)) o
 
 -- what is known then: the others stand there as they did, and those are woken who stood at the first places
-pub record Round (n used a k : ℕ) (t : Table) (o : Result) (h : Held) (i : ℕ) : Type 0 where
+pub record Round (n used a k : ℕ) (t : Table) (o : Outcome) (h : Held) (i : ℕ) : Type 0 where
   pub stage : Stage n used a nobody (heads_woken t k o i) h.bytes h.counts
   pub left : (queue_at (heads_woken t k o i) k).len + i ≡ (queue_at t k).len
   pub place : (p : ℕ) → place_at (queue_at (heads_woken t k o i) k) p ≡ place_at (queue_at t k) (p + i)
@@ -113,7 +113,7 @@ pub record Round (n used a k : ℕ) (t : Table) (o : Result) (h : Held) (i : ℕ
 
 module _ {n used a : ℕ} {t : Table} {b count : List ℕ} (g : Stage n used a nobody t b count)
     {code key k : ℕ} (told : (x : Table) → Rules n used a x → Told n x code at_awaited key k) (past : priorities ≤ k)
-    (o : Result) (good : good_result used o ≡ true) where
+    (o : Outcome) (good : good_result used o ≡ true) where
   round_none : Round n used a k t o (woken_in n used code key o b count 0) 0
   unfolding heads_woken woken_in woken_up_to
   round_none = record { stage = g; left = omega arith; place = λ p. rw add-zero; edition = refl; rest = refl }

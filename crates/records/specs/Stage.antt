@@ -2,7 +2,7 @@
 use Rattle.std.specs.Prelude.{ℕ, ◌+◌, ◌≤◌, ◌<◌, ◌≡◌, Bool, List, length, get_or, set}
 use Rattle.tid.specs.Sizes.{priorities}
 use Rattle.queue.specs.Numbering.{ready_queue, queues_for}
-use Rattle.task.specs.declared.task.Result.{Result}
+use Rattle.task.specs.declared.task.Outcome.{Outcome}
 use Rattle.task.specs.declared.task.State.{State}
 use Rattle.task.specs.declared.task.State.TheVariants.{Ready}
 use Rattle.task.specs.declared.task.Task.{Task}
@@ -28,16 +28,16 @@ pub record Stage (n used a : ℕ) (waking : ℕ → Bool) (t : Table) (b count :
   pub long : priorities ≤ length count
 
 -- the task that a record has, in another state
-abbrev pub task_left : List ℕ → ℕ → State → Result → Task
+abbrev pub task_left : List ℕ → ℕ → State → Outcome → Task
 task_left b s st o =
     record { state = st; priority = byte_at b s at_priority; parent = byte_at b s at_parent; entry = entry_at b s; result = o }
 
 -- a record written anew, but for its priority, its parent and its entry number
-abbrev pub left_bytes : List ℕ → ℕ → State → Result → ℕ → List ℕ
+abbrev pub left_bytes : List ℕ → ℕ → State → Outcome → ℕ → List ℕ
 left_bytes b s st o place = with_record b s (fields (task_left b s st o) place)
 
 -- a task becomes ready at the tail of the queue of its priority: its place is how many stand there
-unfoldable pub joined_bytes : List ℕ → List ℕ → ℕ → Result → List ℕ
+unfoldable pub joined_bytes : List ℕ → List ℕ → ℕ → Outcome → List ℕ
 joined_bytes b count s o = left_bytes b s Ready o (get_or count (byte_at b s at_priority) 0)
 
 -- and then they are one more

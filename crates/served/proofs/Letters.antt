@@ -11,7 +11,7 @@ use Rattle.queue.specs.Choose.{choose}
 use Rattle.tid.specs.Sizes.{area_bytes}
 use Rattle.tid.specs.Tid.{tid_of, slot_named}
 use Rattle.tid.proofs.Trips.{slot_of_mark, tid_named}
-use Rattle.task.specs.declared.task.Result.TheVariants.{Nothing}
+use Rattle.task.specs.declared.task.Outcome.TheVariants.{Nothing}
 use Rattle.task.specs.declared.task.Task.{Task}
 use Rattle.task.specs.Task.{state_code, is_ready, message_of}
 use Rattle.kernel.specs.declared.table.Table.{Table}

@@ -11,7 +11,7 @@ use Rattle.queue.specs.Row.{place_at}
 use Rattle.queue.proofs.Below.{by_test}
 use Rattle.tid.specs.Sizes.{priorities, area_bytes}
 use Rattle.tid.specs.Tid.{mark_of, slot_of, tid_of}
-use Rattle.task.specs.declared.task.Result.TheVariants.{Value}
+use Rattle.task.specs.declared.task.Outcome.TheVariants.{Value}
 use Rattle.task.specs.declared.task.State.TheVariants.{Active, Ready, SendBlocked}
 use Rattle.task.specs.declared.task.Task.{Task}
 use Rattle.task.specs.Task.{state_code, message_of, task_as}

@@ -12,8 +12,8 @@ use Rattle.queue.proofs.Below.{by_test}
 use Rattle.tid.specs.Sizes.{area_bytes}
 use Rattle.tid.specs.Tid.{tid_of, slot_named}
 use Rattle.tid.proofs.Trips.{tid_named}
-use Rattle.task.specs.declared.task.Result.{Result}
-use Rattle.task.specs.declared.task.Result.TheVariants.{Nothing, Value, Fault}
+use Rattle.task.specs.declared.task.Outcome.{Outcome}
+use Rattle.task.specs.declared.task.Outcome.TheVariants.{Nothing, Value, Fault}
 use Rattle.task.specs.declared.task.State.TheVariants.{Active}
 use Rattle.task.specs.declared.task.Task.{Task}
 use Rattle.task.specs.Task.{state_code}
@@ -55,7 +55,7 @@ active_is {n} {t} good g least e =
     (mine, rw (lt-ltb (active_slot t) (slots t) here, ← mine) (tid_named g least))
 
 -- a server that is told what lets it go on does so
-told_goes : {M : Type 0} (sv : Service M) (q : Serving M) (o : Result) (area : List ℕ) → goes_on q.phase o ≡ true
+told_goes : {M : Type 0} (sv : Service M) (q : Serving M) (o : Outcome) (area : List ℕ) → goes_on q.phase o ≡ true
     → busy (told sv q o area).phase ≡ true
 told_goes sv q Nothing area h = h
 told_goes sv q (Value from cut v) area h = go q.phase refl h

@@ -6,7 +6,7 @@ use mathlib.Core.List.{List, [], ◌∷◌}
 use lib.ListN.{length}
 use lib.Dec.{ltb, eqb}
 use Rattle.queue.proofs.Below.{by_test}
-use Rattle.task.specs.declared.task.Result.{Result}
+use Rattle.task.specs.declared.task.Outcome.{Outcome}
 use Rattle.task.proofs.Tests.{chosen}
 use Rattle.kernel.specs.declared.table.Request.{Request}
 use Rattle.kernel.specs.Numbers.{reply_kind}
@@ -43,7 +43,7 @@ module _ {M : Type 0} (sv : Service M) where
   opening_kind (Replying k) priority size len byte tid yet = absurd (false≢true yet)
   opening_kind Listening priority size len byte tid yet = refl
 
-  told_opening : (q : Serving M) (o : Result) (area : List ℕ) → is_opening q.phase ≡ true → unsent (told sv q o area) ≡ []
+  told_opening : (q : Serving M) (o : Outcome) (area : List ℕ) → is_opening q.phase ≡ true → unsent (told sv q o area) ≡ []
   told_opening q o area yet =
       told_keeps sv (λ q. unsent q ≡ []) q o area (opening_unsent q.phase (sent_to q.answer q.to) yet) (λ _. refl)
       (λ from v l. absurd (false≢true (sym (ap is_opening l) ∙ yet)))

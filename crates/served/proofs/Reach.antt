@@ -13,8 +13,8 @@ use Rattle.tid.specs.Sizes.{area_bytes}
 use Rattle.tid.specs.Tid.{tid_of, slot_named}
 use Rattle.tid.proofs.Trips.{tid_named}
 use Rattle.task.specs.declared.task.Buffer.{Buffer}
-use Rattle.task.specs.declared.task.Result.{Result}
-use Rattle.task.specs.declared.task.Result.TheVariants.{Value}
+use Rattle.task.specs.declared.task.Outcome.{Outcome}
+use Rattle.task.specs.declared.task.Outcome.TheVariants.{Value}
 use Rattle.task.specs.declared.task.State.TheVariants.{ReplyBlocked}
 use Rattle.task.specs.declared.task.Task.{Task}
 use Rattle.kernel.specs.declared.table.Request.{Request}
@@ -86,7 +86,7 @@ one_reaches sv fits {n} {g} w r b serves asks same kind some blocked enough =
     let least : min r.arg2 b.len ≡ size = omega (arith, len) in
     let whole : ltb b.len r.arg2 ≡ false = le-ltb b.len r.arg2 (omega (arith, len)) in
     let given : bytes_at (active_slot t) r.arg1 (min r.arg2 b.len) w.areas ≡ bytes_in g size size w.areas = rw (least, start, ← mine) in (
-      subst (λ (o : Result). Gets x o (decided w r)) (λ i. Value 0 (whole i) (len i)) reach.gets,
+      subst (λ (o : Outcome). Gets x o (decided w r)) (λ i. Value 0 (whole i) (len i)) reach.gets,
       ap (λ (m : ℕ). bytes_in r.arg0 b.start m (areas_after w r)) (sym least) ∙ reach.bytes ∙ given
           ∙ answer_stands sv fits w serves k phase low,
     )

@@ -11,8 +11,8 @@ use lib.Dec.{ltb, eqb}
 use borrow.Author.Tests.{ltb-true, ltb-false}
 use Rattle.queue.specs.Choose.{choose}
 use Rattle.queue.proofs.Below.{by_test}
-use Rattle.task.specs.declared.task.Result.{Result}
-use Rattle.task.specs.declared.task.Result.TheVariants.{Nothing, Value, Fault}
+use Rattle.task.specs.declared.task.Outcome.{Outcome}
+use Rattle.task.specs.declared.task.Outcome.TheVariants.{Nothing, Value, Fault}
 use Rattle.task.proofs.Tests.{chosen}
 use Rattle.kernel.specs.declared.table.Request.{Request}
 use Rattle.kernel.specs.Numbers.{create_kind, receive_kind, reply_kind, own_write_kind}
@@ -34,11 +34,11 @@ data Told {M : Type 0} (sv : Service M) (q : Serving M) : Serving M → List Let
       → Told sv q (answering sv q.priority (sv.hear q.mind l.from l.length l.bytes)) (l ∷ [])
 
 module _ {M : Type 0} (sv : Service M) (fits : Fits sv) where
-  told_is : (q : Serving M) (o : Result) (area : List ℕ) → is_opening q.phase ≡ false
+  told_is : (q : Serving M) (o : Outcome) (area : List ℕ) → is_opening q.phase ≡ false
       → Told sv q (told sv q o area) (read_in q.phase sv.size o area)
   told_is q o area past = go o q.phase refl past
     where
-      go : (o : Result) (p : Phase) → q.phase ≡ p → is_opening p ≡ false → Told sv q (told sv q o area) (read_in p sv.size o area)
+      go : (o : Outcome) (p : Phase) → q.phase ≡ p → is_opening p ≡ false → Told sv q (told sv q o area) (read_in p sv.size o area)
       go o Making e past = absurd (true≢false past)
       go o Made e past = absurd (true≢false past)
       go Nothing (Writing k) e past = none

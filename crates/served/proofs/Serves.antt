@@ -11,8 +11,8 @@ use borrow.Author.Tests.{eqb-true, eq-eqb, ne_eqb, ltb-true, lt-ltb}
 use Rattle.queue.proofs.Below.{by_test, both_true}
 use Rattle.tid.specs.Sizes.{area_bytes}
 use Rattle.tid.specs.Tid.{slot_named}
-use Rattle.task.specs.declared.task.Result.{Result}
-use Rattle.task.specs.declared.task.Result.TheVariants.{Nothing, Value, Fault}
+use Rattle.task.specs.declared.task.Outcome.{Outcome}
+use Rattle.task.specs.declared.task.Outcome.TheVariants.{Nothing, Value, Fault}
 use Rattle.task.proofs.Tests.{chosen}
 use Rattle.kernel.specs.declared.table.Table.{Table}
 use Rattle.kernel.specs.declared.table.Request.{Request}
@@ -61,8 +61,8 @@ answer_stands sv fits {n} {g} w serves k e low =
     begun_whole (old low) inside (omega arith)
 
 -- what is told leaves a server as it is, or names the task that it made, or brings a message to one that listens
-pub told_keeps : {M : Type 0} (sv : Service M) (P : Serving M → Type 0) (q : Serving M) (o : Result) (area : List ℕ) → P q
-    → ((o : Result) → P (opened sv q o))
+pub told_keeps : {M : Type 0} (sv : Service M) (P : Serving M → Type 0) (q : Serving M) (o : Outcome) (area : List ℕ) → P q
+    → ((o : Outcome) → P (opened sv q o))
     → ((from v : ℕ) → q.phase ≡ Listening → P (answering sv q.priority (sv.hear q.mind from v area)))
     → P (told sv q o area)
 told_keeps sv P q Nothing area old named new = old

@@ -5,8 +5,8 @@ use mathlib.Core.Logic.{◌≢◌}
 use mathlib.Core.Bool.{Bool, true, false, false≢true}
 use mathlib.Core.List.{List, []}
 use native.Mathlib.Omega.{arith}
-use Rattle.task.specs.declared.task.Result.{Result}
-use Rattle.task.specs.declared.task.Result.TheVariants.{Nothing, Value, Fault}
+use Rattle.task.specs.declared.task.Outcome.{Outcome}
+use Rattle.task.specs.declared.task.Outcome.TheVariants.{Nothing, Value, Fault}
 use Rattle.task.specs.declared.task.State.TheVariants.{Active, Ready, SendBlocked}
 use Rattle.task.specs.declared.task.Task.{Task}
 use Rattle.task.specs.Task.{state_code, message_of, reply_of}
@@ -17,7 +17,7 @@ use Rattle.served.specs.Letters.{read_in}
 
 -- a server in this phase reads no letter, whatever it is told
 abbrev pub Unread : Phase → Type 0
-Unread p = (size : ℕ) (o : Result) (area : List ℕ) → read_in p size o area ≡ []
+Unread p = (size : ℕ) (o : Outcome) (area : List ℕ) → read_in p size o area ≡ []
 
 -- it reads only where it listens
 pub elsewhere_unread : (p : Phase) → p ≢ Listening → Unread p
@@ -28,7 +28,7 @@ elsewhere_unread (Replying k) other size o area = refl
 elsewhere_unread Listening other size o area = absurd (other refl)
 
 -- whether a server in this phase has something to ask once it is told this
-abbrev pub goes_on : Phase → Result → Bool
+abbrev pub goes_on : Phase → Outcome → Bool
 goes_on Making o = true
 goes_on Made Nothing = false
 goes_on Made (Value from cut v) = true
@@ -43,7 +43,7 @@ goes_on Listening (Fault f) = false
 abbrev pub busy : Phase → Bool
 busy p = goes_on p Nothing
 
-pub busy_goes : (p : Phase) (o : Result) → busy p ≡ true → goes_on p o ≡ true
+pub busy_goes : (p : Phase) (o : Outcome) → busy p ≡ true → goes_on p o ≡ true
 busy_goes Making o b = refl
 busy_goes Made o b = absurd (false≢true b)
 busy_goes (Writing k) o b = refl

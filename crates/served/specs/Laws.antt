@@ -6,7 +6,7 @@ use Rattle.queue.specs.Choose.{choose}
 use Rattle.tid.specs.Sizes.{area_bytes}
 use Rattle.tid.specs.Tid.{slot_named}
 use Rattle.task.specs.declared.task.Buffer.{Buffer}
-use Rattle.task.specs.declared.task.Result.TheVariants.{Nothing, Value}
+use Rattle.task.specs.declared.task.Outcome.TheVariants.{Nothing, Value}
 use Rattle.task.specs.declared.task.State.TheVariants.{Active, Ready, ReplyBlocked}
 use Rattle.kernel.specs.declared.table.Request.{Request}
 use Rattle.kernel.specs.Numbers.{reply_kind}

@@ -2,8 +2,8 @@
 use Rattle.std.specs.Prelude.{ℕ, min, Bool, true, false, not, ◌&&◌, List, [], ◌∷◌, ◌++◌, map, take, drop, eqb}
 use Rattle.queue.specs.Choose.{choose}
 use Rattle.tid.specs.Tid.{slot_named}
-use Rattle.task.specs.declared.task.Result.{Result}
-use Rattle.task.specs.declared.task.Result.TheVariants.{Nothing, Value, Fault}
+use Rattle.task.specs.declared.task.Outcome.{Outcome}
+use Rattle.task.specs.declared.task.Outcome.TheVariants.{Nothing, Value, Fault}
 use Rattle.task.specs.Task.{is_ready}
 use Rattle.kernel.specs.declared.table.Request.{Request}
 use Rattle.kernel.specs.declared.table.Effect.{Effect}
@@ -50,12 +50,12 @@ letters_to g xs (d ∷ ds) = letter_in g xs d ++ letters_to g d.areas ds
 -- WHAT THE SERVER READS
 
 -- the letter that a value is to a server that listens: its bytes stand at the front of the area
-abbrev pub letter_of : ℕ → Result → List ℕ → List Letter
+abbrev pub letter_of : ℕ → Outcome → List ℕ → List Letter
 letter_of size Nothing area = []
 letter_of size (Value from cut v) area = record { from = from; length = v; bytes = take (min v size) area } ∷ []
 letter_of size (Fault f) area = []
 
-abbrev pub read_in : Phase → ℕ → Result → List ℕ → List Letter
+abbrev pub read_in : Phase → ℕ → Outcome → List ℕ → List Letter
 read_in Making size o area = []
 read_in Made size o area = []
 read_in (Writing k) size o area = []

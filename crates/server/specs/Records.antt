@@ -2,8 +2,8 @@
 use Rattle.std.specs.Prelude.{ℕ, ◌+◌, List, ◌++◌, length, ltb, leb, eqb}
 use Rattle.std.proofs.Math.Seq.{paste}
 use Rattle.queue.specs.Choose.{choose}
-use Rattle.task.specs.declared.task.Result.{Result}
-use Rattle.task.specs.declared.task.Result.TheVariants.{Nothing}
+use Rattle.task.specs.declared.task.Outcome.{Outcome}
+use Rattle.task.specs.declared.task.Outcome.TheVariants.{Nothing}
 use Rattle.kernel.specs.declared.table.Request.{Request}
 use Rattle.image.specs.Bytes.{bytes_of, number_in}
 use Rattle.image.specs.Call.{request_length, at_kind, at_sender, at_cut_word, answer_from}
@@ -28,7 +28,7 @@ requested r bytes = choose (eqb (length bytes) request_length) (request_bytes r)
 
 -- the result that an answer tells (`answer_from`); a kind or a sender of more than a byte, or a last word above 1, which no answer of the
 -- kernel has, tells nothing
-unfoldable pub result_in : List ℕ → Result
+unfoldable pub result_in : List ℕ → Outcome
 result_in answer =
     choose (ltb 255 (number_in answer at_kind 4)) Nothing
     (choose (ltb 255 (number_in answer at_sender 4)) Nothing

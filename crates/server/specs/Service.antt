@@ -2,8 +2,8 @@
 -- here but by its requests and results.
 use Rattle.std.specs.Prelude.{ℕ, Bool, List, [], length, get_or, eqb}
 use Rattle.queue.specs.Choose.{choose}
-use Rattle.task.specs.declared.task.Result.{Result}
-use Rattle.task.specs.declared.task.Result.TheVariants.{Nothing, Value, Fault}
+use Rattle.task.specs.declared.task.Outcome.{Outcome}
+use Rattle.task.specs.declared.task.Outcome.TheVariants.{Nothing, Value, Fault}
 use Rattle.kernel.specs.declared.table.Request.{Request}
 use Rattle.server.specs.declared.phase.Phase.{Phase}
 use Rattle.server.specs.declared.phase.Phase.TheVariants.{Making, Made, Writing, Replying, Listening}
@@ -14,7 +14,7 @@ use Rattle.server.specs.Phase.{place, request_in, after}
 pub record Machine (S : Type 0) : Type 0 where
   pub request : S → Request
   pub asked : S → S
-  pub told : S → Result → List ℕ → S
+  pub told : S → Outcome → List ℕ → S
 
 -- what a message comes to: what the service keeps from then on, the one answer, as bytes, and who gets it, in this order
 pub record Heard (M : Type 0) : Type 0 where
@@ -26,7 +26,7 @@ pub record Heard (M : Type 0) : Type 0 where
 -- comes to, by its sender, its length and the area that it stands at the front of
 pub record Service (M : Type 0) : Type 0 where
   pub size : ℕ
-  pub made : M → Result → M
+  pub made : M → Outcome → M
   pub hear : M → ℕ → ℕ → List ℕ → Heard M
 
 -- what the task of a service keeps: of which priority the task is that it makes; what the service keeps; the last answer, and to whom; its phase
@@ -39,7 +39,7 @@ pub record Serving (M : Type 0) : Type 0 where
 
 module _ {M : Type 0} (sv : Service M) where
   -- nobody is answered yet, so that a Receive is asked
-  abbrev pub opened : Serving M → Result → Serving M
+  abbrev pub opened : Serving M → Outcome → Serving M
   opened q o = record { priority = q.priority; mind = sv.made q.mind o; answer = q.answer; to = []; phase = Replying 0 }
 
   -- an answer to nobody is not written
@@ -77,7 +77,7 @@ module _ {M : Type 0} (sv : Service M) where
   fault_in (Replying k) q f = q
   fault_in Listening q f = q
 
-  abbrev pub told : Serving M → Result → List ℕ → Serving M
+  abbrev pub told : Serving M → Outcome → List ℕ → Serving M
   told q Nothing area = q
   told q (Value from cut v) area = value_in q.phase q from cut v area
   told q (Fault f) area = fault_in q.phase q f

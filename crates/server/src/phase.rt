@@ -36,11 +36,8 @@ pub fn place(phase: Phase) -> u8
     ensures { result ≡ Spec.place phase }
 {
     match phase {
-        Phase::Making => 0,
-        Phase::Made => 0,
-        Phase::Writing(k) => k,
-        Phase::Replying(k) => k,
-        Phase::Listening => 0,
+        Phase::Writing(k) | Phase::Replying(k) => k,
+        _ => 0,
     }
 }
 
@@ -49,19 +46,12 @@ pub fn place(phase: Phase) -> u8
 pub fn request_in(phase: Phase, priority: u8, size: u8, len: u8, byte: u8, tid: u32) -> Request
     ensures { result ≡ Spec.request_in phase priority size len byte tid }
 {
-    let room = size as u32;
+    let room = u32::from(size);
     match phase {
-        Phase::Making => ask(CREATE, priority as u32, 0, 0),
-        Phase::Made => ask(RECEIVE, 0, room, 0),
-        Phase::Writing(k) => ask(OWN_WRITE, room + k as u32, byte as u32, 0),
-        Phase::Replying(k) => {
-            if k < len {
-                ask(REPLY, tid, room, room)
-            } else {
-                ask(RECEIVE, 0, room, 0)
-            }
-        }
-        Phase::Listening => ask(RECEIVE, 0, room, 0),
+        Phase::Making => ask(CREATE, u32::from(priority), 0, 0),
+        Phase::Writing(k) => ask(OWN_WRITE, room + u32::from(k), u32::from(byte), 0),
+        Phase::Replying(k) if k < len => ask(REPLY, tid, room, room),
+        _ => ask(RECEIVE, 0, room, 0),
     }
 }
 
@@ -70,20 +60,10 @@ pub fn after(phase: Phase, size: u8, len: u8) -> Phase
     ensures { result ≡ Spec.after phase size len }
 {
     match phase {
-        Phase::Making => Phase::Made,
-        Phase::Made => Phase::Made,
-        Phase::Writing(k) => {
-            if k as u32 + 1 < size as u32 {
-                return Phase::Writing(k + 1);
-            }
-            Phase::Replying(0)
-        }
-        Phase::Replying(k) => {
-            if k < len {
-                return Phase::Replying(k + 1);
-            }
-            Phase::Listening
-        }
-        Phase::Listening => Phase::Listening,
+        Phase::Making | Phase::Made => Phase::Made,
+        Phase::Writing(k) if u32::from(k) + 1 < u32::from(size) => Phase::Writing(k + 1),
+        Phase::Writing(_) => Phase::Replying(0),
+        Phase::Replying(k) if k < len => Phase::Replying(k + 1),
+        Phase::Replying(_) | Phase::Listening => Phase::Listening,
     }
 }

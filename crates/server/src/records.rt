@@ -6,7 +6,7 @@ use crate::words::{put_word, word_at};
 use image::call::REQUEST;
 use image::fields::{ResultParts, result_of};
 use kernel::table::Request;
-use task::task::Result;
+use task::task::Outcome;
 
 // Where an answer has the kind of its result, the value or fault, whom it is from, and whether it was cut.
 const KIND: u8 = 8;
@@ -22,35 +22,33 @@ pub fn put_request(request: Request, out: &mut [u8])
     ensures { out.new ≡ requested request out.old }
 {
     if out.len() == REQUEST {
-        put_word(&mut *out, 0, request.kind);
-        put_word(&mut *out, 4, request.arg0);
-        put_word(&mut *out, 8, request.arg1);
-        put_word(&mut *out, 12, request.arg2);
-        put_word(&mut *out, 16, request.arg3);
-        put_word(&mut *out, 20, request.arg4);
+        put_word(out, 0, request.kind);
+        put_word(out, 4, request.arg0);
+        put_word(out, 8, request.arg1);
+        put_word(out, 12, request.arg2);
+        put_word(out, 16, request.arg3);
+        put_word(out, 20, request.arg4);
     }
 }
 
 // The result that an answer tells. Of no kind that there is, from no tid that there can be, or neither cut nor whole, it tells nothing.
-pub fn result_in(answer: &[u8]) -> Result
+#[tactic(auto, unfolding(crate::specs::Records::result_in, image::specs::Call::answer_from))]
+pub fn result_in(answer: &[u8]) -> Outcome
     ensures { result ≡ result_in answer.now }
 {
-    let kind = word_at(answer, KIND);
-    let from = word_at(answer, SENDER);
-    let cut = word_at(answer, CUT);
-    if 255 < kind {
-        return Result::Nothing;
-    }
-    if 255 < from {
-        return Result::Nothing;
-    }
-    if 1 < cut {
-        return Result::Nothing;
-    }
+    let Ok(kind) = u8::try_from(word_at(answer, KIND)) else {
+        return Outcome::Nothing;
+    };
+    let Ok(from) = u8::try_from(word_at(answer, SENDER)) else {
+        return Outcome::Nothing;
+    };
+    let Ok(cut @ 0..=1) = u8::try_from(word_at(answer, CUT)) else {
+        return Outcome::Nothing;
+    };
     result_of(ResultParts {
-        kind: kind as u8,
-        from: from as u8,
-        cut: cut as u8,
+        kind,
+        from,
+        cut,
         word: word_at(answer, VALUE),
     })
 }

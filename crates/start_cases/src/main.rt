@@ -4,7 +4,7 @@
 // each the verdict is written as a word, and then the image, whose bytes were all 0xA5 before the call.
 #![tactic(auto)]
 
-use chunks::{read_full, write_word};
+use chunks::{CaseError, MOST, read_full, run_cases, write_word};
 use entry::kernel_start;
 use image::words::word;
 use std::io;
@@ -12,9 +12,6 @@ use std::io::Read;
 
 // How long a start is.
 const START: usize = 16;
-
-// The longest image.
-const MOST: usize = 16384;
 
 // What an image holds before the call, so that every byte written is seen.
 const BEFORE: u8 = 0xA5;
@@ -27,26 +24,24 @@ fn call(
     entry: u32,
     image: &mut [u8],
 ) -> io::Result<()> {
-    let verdict = kernel_start(edition, priority, entry, &mut *image);
+    let verdict = kernel_start(edition, priority, entry, image);
     write_word(rt, verdict as usize)?;
-    rt.write_all(&*image)
+    rt.write_all(image)
 }
 
 // One start. Answers whether to go on.
-fn run_start<R: Read>(rt: &(impl Print + Eprint), from: &mut R) -> io::Result<bool> {
+fn run_start<R: Read>(rt: &impl Print, from: &mut R) -> Result<bool, CaseError> {
     let mut asked = [0u8; START];
     let got = read_full(from, &mut asked)?;
     if got == 0 {
         return Ok(false);
     }
     if got < START {
-        eprintln!(rt; "start_cases: the last start is cut short")?;
-        return Ok(false);
+        return Err(CaseError::CutStart);
     }
     let length = word(asked[12], asked[13], asked[14], asked[15]) as usize;
     if MOST < length {
-        eprintln!(rt; "start_cases: an image is longer than 16384 bytes")?;
-        return Ok(false);
+        return Err(CaseError::LongImage);
     }
     let mut image = [BEFORE; MOST];
     call(
@@ -59,13 +54,8 @@ fn run_start<R: Read>(rt: &(impl Print + Eprint), from: &mut R) -> io::Result<bo
     Ok(true)
 }
 
-// A proved loop has to end, and nothing says that the input does.
 fn main(rt: HostRuntime) -> io::Result<()> {
-    let mut from = rt.reader();
-    for _ in 0..u64::MAX {
-        if !run_start(&rt, &mut from)? {
-            break;
-        }
-    }
-    Ok(())
+    run_cases(&rt, "start_cases", &mut rt.reader(), |from| {
+        run_start(&rt, from)
+    })
 }

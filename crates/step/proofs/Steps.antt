@@ -1,19 +1,24 @@
 -- What a step comes to: a refusal, which changes nothing, or what is decided of a table that keeps the rules.
 use Prim.Native.Nat.{ℕ, ◌*◌}
-use mathlib.Core.Path.{◌≡◌, refl}
+use Rattle.std.specs.Prelude.{Option, Result, unwrap_or}
+use Rattle.std.proofs.Common.{Ok, Err}
+use mathlib.Core.Path.{◌≡◌, refl, sym, ap}
 use mathlib.Core.Logic.{◌≢◌}
 use mathlib.Core.Bool.{true, false, not, ◌&&◌}
 use native.Mathlib.Omega.{arith}
 use lib.Dec.{ltb, leb, eqb}
 use borrow.Author.Tests.{eqb-true, eqb-false, eq-eqb, ne_eqb, ltb-false, not-true, not-false}
 use Rattle.tid.specs.Sizes.{events, area_bytes}
-use Rattle.task.specs.declared.task.Result.TheVariants.{Nothing}
+use Rattle.queue.proofs.Below.{by_test}
+use Rattle.task.specs.declared.task.Outcome.TheVariants.{Nothing}
 use Rattle.task.proofs.Tests.{chosen}
 use Rattle.kernel.specs.declared.table.Table.{Table}
 use Rattle.kernel.specs.declared.table.Request.{Request}
 use Rattle.kernel.specs.declared.table.Effect.TheVariants.{Keep}
 use Rattle.kernel.specs.declared.table.Decision.{Decision}
 use Rattle.kernel.specs.Numbers.{create_kind, event_kind, own_write_kind, accepted, bad_areas, bad_table, bad_kind, none_active, bad_event, bad_write, bad_edition}
+use Rattle.kernel.specs.declared.refusal.Refusal.{Refusal}
+use Rattle.kernel.specs.Verdict.{refusal_number}
 use Rattle.kernel.specs.Edition.{is_edition}
 use Rattle.kernel.specs.Table.{slots, active_slot}
 use Rattle.kernel.specs.Turn.{settled}
@@ -23,7 +28,8 @@ use Rattle.kernel.proofs.Refusals.{dispatched_accepted}
 use Rattle.rules.specs.Good.{good_table}
 use Rattle.rules.specs.Facts.{Good}
 use Rattle.rules.proofs.Good.{facts_good}
-use Rattle.step.specs.Step.{step}
+use Rattle.rules.proofs.Walk.{active_found}
+use Rattle.step.specs.Step.{checked_active, step}
 
 -- the table and the areas as they were, and no result
 pub record Unchanged (t : Table) (d : Decision) : Type 0 where
@@ -61,6 +67,11 @@ module _ (t : Table) (r : Request) where
       chosen P (eqb r.kind own_write_kind) (λ own. wrote clear (eqb-true r.kind own_write_kind own))
       (λ other. entered (clear, eqb-false r.kind own_write_kind other)))
 
+  -- what a step does by what the check answers
+  abbrev pub step_by : ℕ → Result (Option ℕ) Refusal → Decision
+  step_by n (Err e) = refused t (refusal_number e) 0
+  step_by n (Ok a) = decide_at t (unwrap_or a n) r
+
   module _ (len : ℕ) where
     -- what is so of the three refusals of a step, and of what is decided of a table that keeps the rules, is so of the step
     pub step_is : (P : Decision → Type 0) → P (refused t bad_edition 0) → P (refused t bad_areas 0) → (good_table t ≡ false → P (refused t bad_table 0))
@@ -87,6 +98,22 @@ module _ (t : Table) (r : Request) where
         let Q : Decision → Type 0 = λ d. d.answer.verdict ≢ accepted → Unchanged t d in
         step_is Q (λ _. same t _ _) (λ _. same t _ _) (λ _ _. same t _ _)
         (λ _. decide_is Q (λ _ _. same t _ _) (λ _ _ no. absurd (no refl)) (λ _ no. absurd (no (dispatched_accepted _ _))))
+
+    -- A step by the names of its refusals.
+
+    by_refusals : step t r len ≡ step_by (slots t) (checked_active (slots t) t len)
+    unfolding step decide
+    by_refusals =
+        by_test (is_edition t.edition)
+        (λ known. by_test (eqb len (slots t * area_bytes))
+        (λ whole. by_test (good_table t)
+        (λ good. rw (known, whole, good) (ap (λ (a : ℕ). decide_at t a r) (sym (active_found (slots t) t refl))))
+        (λ bad. rw (known, whole, bad)))
+        (λ other. rw (known, other)))
+        (λ none. rw none)
+
+    pub step_checked : (n : ℕ) → slots t ≡ n → {x : Result (Option ℕ) Refusal} → x ≡ checked_active n t len → step t r len ≡ step_by n x
+    step_checked n size e = rw (e, ← size) by_refusals
 
     -- Which of its four forms a step has.
 

@@ -26,20 +26,12 @@ const MOST: usize = 2730;
 // One record after another. The decision is carried, since the table alone would be copied once more.
 fn stepped(first: Table, records: &[u8], areas: &mut [u8], answers: &mut [u8]) -> Table {
     let mut decision = first.refused(ACCEPTED, 0);
-    let mut at = 0;
-    let mut to = 0;
-    while REQUEST <= records.len() - at {
-        if answers.len() - to < ANSWER {
-            break;
-        }
-        let next = at + REQUEST;
-        let end = to + ANSWER;
-        let table = decision.table;
-        decision = step(table, request_from(&records[at..next]), &mut *areas);
-        let answer = decision.answer;
-        put_answer(answer, &mut answers[to..end]);
-        at = next;
-        to = end;
+    for (record, answer) in records
+        .chunks_exact(REQUEST)
+        .zip(answers.chunks_exact_mut(ANSWER))
+    {
+        decision = step(decision.table, request_from(record), areas);
+        put_answer(decision.answer, answer);
     }
     decision.table
 }
@@ -53,14 +45,13 @@ fn shown(
     answers: &mut [u8],
     image: &mut [u8],
 ) -> io::Result<()> {
-    let last = stepped(first, records, &mut *areas, &mut *answers);
-    write(last, &mut *image);
+    let last = stepped(first, records, areas, answers);
+    let _ = write(last, image);
     let count = records.len() / REQUEST;
     if count <= answers.len() / ANSWER {
-        let end = count * ANSWER;
-        rt.write_all(&answers[..end])?;
-        rt.write_all(&*areas)?;
-        rt.write_all(&*image)?;
+        rt.write_all(&answers[..count * ANSWER])?;
+        rt.write_all(areas)?;
+        rt.write_all(image)?;
     }
     Ok(())
 }
@@ -69,8 +60,7 @@ fn main(rt: HostRuntime) -> io::Result<()> {
     let mut records = [0u8; BYTES];
     let n = read_full(&mut rt.reader(), &mut records)?;
     if 0 < n {
-        let started = start(ONE_WAITS, FIRST, FIRST_ENTRY);
-        let first = started.table;
+        let first = start(ONE_WAITS, FIRST, FIRST_ENTRY).table;
         let mut areas = [0u8; SLOTS * AREA];
         let mut answers = [0u8; MOST * ANSWER];
         let mut image = [0u8; IMAGE];

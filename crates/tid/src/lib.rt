@@ -13,34 +13,26 @@ const LAST: usize = 254;
 pub fn mark_of(s: usize) -> u8
     ensures { result ≡ mark_of (min s last_slot) }
 {
-    if s < LAST {
-        s as u8 + 1
-    } else {
-        LAST as u8 + 1
-    }
+    s.min(LAST) as u8 + 1
 }
 
 // The slot that a mark stands for.
 pub fn slot_of(mark: u8) -> usize
     ensures { (result ≡ slot_of mark) × (result ≤ last_slot) }
 {
-    if mark == 0 { 0 } else { mark as usize - 1 }
+    usize::from(mark).saturating_sub(1)
 }
 
 // The id that is shown of the task of a slot.
 pub fn tid_of(s: usize) -> u8
     ensures { result ≡ tid_of (min s last_slot) }
 {
-    if s < LAST {
-        s as u8 + 1
-    } else {
-        LAST as u8 + 1
-    }
+    s.min(LAST) as u8 + 1
 }
 
 // The slot of the task that a tid names.
 pub fn slot_named(tid: u8) -> usize
     ensures { (result ≡ slot_named tid) × (result ≤ last_slot) }
 {
-    if tid == 0 { 0 } else { tid as usize - 1 }
+    usize::from(tid).saturating_sub(1)
 }

@@ -12,13 +12,13 @@ unfolding found_in
 returns-then-image-ne-IMAGE c = rw (ne_eqb _ (slot_count * record_length) c.if-image-ne-IMAGE.true)
 
 pub rest_blank-requires : goal.rest_blank-requires
-rest_blank-requires c = ((seen_used slot_count c.args.image.now c.surveyed-seen.ensures).0, c.if-image-ne-IMAGE.false)
+rest_blank-requires c = ((seen_used slot_count c.args.image.now c.surveyed-used.ensures).0, c.if-image-ne-IMAGE.false)
 
 pub all_judged-requires : goal.all_judged-requires
-all_judged-requires c = let counted = seen_used slot_count c.args.image.now c.surveyed-seen.ensures in
+all_judged-requires c = let counted = seen_used slot_count c.args.image.now c.surveyed-used.ensures in
     (counted.0, (c.if-image-ne-IMAGE.false, counted.1))
 
 pub returns : goal.returns
-returns c = finds slot_count c.args.edition c.args.image.now c.surveyed-seen.result c.if-image-ne-IMAGE.false
+returns c = finds slot_count c.args.edition c.args.image.now c.surveyed-used.result c.if-image-ne-IMAGE.false
     (λ i. omega (arith, c.type_inv.image i))
-    c.surveyed-seen.ensures c.is_edition.ensures c.rest_blank.ensures c.all_judged.ensures c.active_if_ready.ensures
+    c.surveyed-used.ensures c.is_edition.ensures c.rest_blank.ensures c.all_judged.ensures c.active_if_ready.ensures

@@ -1,12 +1,8 @@
 -- `decide`: a way out for each refusal, the own write, and the entry.
-use Rattle.std.proofs.Common.{◌≡◌, ◌*◌, ◌<◌, ℕ, List, true, length, sym, ◌∙◌, arith, rules}
+use Rattle.std.proofs.Common.{◌≡◌, ◌*◌, ℕ, List, true, length, sym, ap, ◌∙◌, arith, rules, refl, Ok, ltb-true}
 use Rattle.std.proofs.lemmas.Bool.{not-false, not-true}
-use Rattle.tid.specs.Sizes.{slot_count, area_bytes}
-use Rattle.tid.proofs.Byte.{in_byte}
-use Rattle.kernel.specs.declared.table.Request.{Request}
-use Rattle.kernel.specs.Numbers.{accepted, own_write_kind}
-use Rattle.kernel.specs.Refusal.{refusal_of}
-use Rattle.kernel.proofs.Refusals.{fine}
+use Rattle.tid.specs.Sizes.{slot_count}
+use Rattle.kernel.proofs.Verdicts.{number_positive}
 use Rattle.image.specs.Record.{record_length}
 use Rattle.image.specs.Image.{is_image}
 use Rattle.image.proofs.Rebuilt.{Bytes}
@@ -20,17 +16,9 @@ image_of_good : (ed : ℕ) (b : List ℕ) → length b ≡ slot_count * record_l
     → found.good ≡ true → is_image slot_count ed b ≡ true
 image_of_good ed b size small found is good = sym (found_good slot_count ed b size small found is) ∙ good
 
--- an own write that is not refused: there is a caller, and the place and the byte are in their ranges
-own : (a : ℕ) (r : Request) (verdict : ℕ) → verdict ≡ refusal_of slot_count a r → verdict ≡ accepted → r.kind ≡ own_write_kind
-    → (a < slot_count) × (r.arg0 < area_bytes) × (r.arg1 < 256)
-own a r verdict is none kind =
-    let f = fine slot_count a r (sym is ∙ none) in
-    let write = f.write kind in
-    (f.caller (λ e. omega (arith, kind)), write.0, write.1)
-
 pub returns-then-image-ne-IMAGE : goal.returns-then-image-ne-IMAGE
 returns-then-image-ne-IMAGE c =
-    rw c.told_nothing.ensures (wrong_length slot_count c.args.edition c.args.image.now c.args.r (λ e. omega arith))
+    rw c.refused.ensures (wrong_length slot_count c.args.edition c.args.image.now c.args.r (λ e. omega arith))
 
 pub returns-then-not-found : goal.returns-then-not-found
 returns-then-not-found c =
@@ -38,44 +26,28 @@ returns-then-not-found c =
     let size : length b ≡ slot_count * record_length = omega arith in
     let small : Bytes b = λ i. search rules in
     let bad = sym (found_good slot_count c.args.edition b size small c.check-found.result c.check-found.ensures) ∙ not-true _ c.if-not-found.true in
-    rw c.told_nothing-then-not-found.ensures (wrong_image slot_count c.args.edition b size small c.args.r bad)
+    rw c.refused-then-not-found.ensures (wrong_image slot_count c.args.edition b size small c.args.r bad)
 
-pub returns-then-verdict-gt-ACCEPTED : goal.returns-then-verdict-gt-ACCEPTED
-returns-then-verdict-gt-ACCEPTED c =
+pub returns-in-Err : goal.returns-in-Err
+returns-in-Err c =
     let b : List ℕ = c.args.image.now in
     let size : length b ≡ slot_count * record_length = omega arith in
     let small : Bytes b = λ i. search rules in
     let good = image_of_good c.args.edition b size small c.check-found.result c.check-found.ensures (not-false _ c.if-not-found.false) in
-    rw (c.told_nothing-then-verdict-gt-ACCEPTED.ensures, c.shown_tid.ensures)
+    rw (c.refused-in-Err.ensures, c.shown_tid.ensures)
     (decided_refused slot_count c.args.edition b size small c.check-found.result c.check-found.ensures good
-    c.args.r c.refusal-verdict.result c.refusal-verdict.ensures c.if-verdict-gt-ACCEPTED.true)
+    c.args.r _ c.in-Err.ensures.verdict (ltb-true _ _ (number_positive c.in-Err.refusal)))
 
-pub overflow_mul-effect : goal.overflow_mul-effect
-overflow_mul-effect c =
-    let l = own c.check-found.result.active c.args.r c.refusal-verdict.result c.refusal-verdict.ensures (omega arith) c.if-r-eq-OWN_WRITE.true in
-    record { fits = omega arith }
-
-pub overflow_add-effect : goal.overflow_add-effect
-overflow_add-effect c =
-    let l = own c.check-found.result.active c.args.r c.refusal-verdict.result c.refusal-verdict.ensures (omega arith) c.if-r-eq-OWN_WRITE.true in
-    record { fits = omega arith }
-
-pub overflow_cast-effect-then-r-eq-OWN_WRITE : goal.overflow_cast-effect-then-r-eq-OWN_WRITE
-overflow_cast-effect-then-r-eq-OWN_WRITE c =
-    let l = own c.check-found.result.active c.args.r c.refusal-verdict.result c.refusal-verdict.ensures (omega arith) c.if-r-eq-OWN_WRITE.true in
-    record { fits = omega arith }
-
-pub returns-then-r-eq-OWN_WRITE : goal.returns-then-r-eq-OWN_WRITE
-returns-then-r-eq-OWN_WRITE c =
+pub returns-in-Ok-OwnWrite : goal.returns-in-Ok-OwnWrite
+returns-in-Ok-OwnWrite c =
     let b : List ℕ = c.args.image.now in
     let size : length b ≡ slot_count * record_length = omega arith in
     let small : Bytes b = λ i. search rules in
-    let a = c.check-found.result.active in
     let good = image_of_good c.args.edition b size small c.check-found.result c.check-found.ensures (not-false _ c.if-not-found.false) in
-    let l = own a c.args.r c.refusal-verdict.result c.refusal-verdict.ensures (omega arith) c.if-r-eq-OWN_WRITE.true in
-    rw (c.told_nothing-then-r-eq-OWN_WRITE.ensures, c.tid_of.ensures, in_byte a (omega arith))
+    let met = c.in-Ok-OwnWrite.ensures {u = tt {0}} in
+    rw (c.own_write.ensures, c.in-Ok-OwnWrite.offset-is, c.in-Ok-OwnWrite.byte-is)
     (decided_write slot_count c.args.edition b size small c.check-found.result c.check-found.ensures good
-    c.args.r c.refusal-verdict.result c.refusal-verdict.ensures c.if-verdict-gt-ACCEPTED.false c.if-r-eq-OWN_WRITE.true)
+    c.args.r _ met.verdict refl _ _ (met.call ∙ ap Ok c.in-Ok-OwnWrite.field-0-is))
 
 pub turned-turn-requires : goal.turned-turn-requires
 turned-turn-requires c =
@@ -83,16 +55,17 @@ turned-turn-requires c =
     let size : length b ≡ slot_count * record_length = omega arith in
     let small : Bytes b = λ i. search rules in
     let good = image_of_good c.args.edition b size small c.check-found.result c.check-found.ensures (not-false _ c.if-not-found.false) in (
-      (sym c.refusal-verdict.ensures ∙ omega arith, c.if-r-eq-OWN_WRITE.false),
+      search rules,
       begins slot_count c.args.edition b size small c.check-found.result c.check-found.ensures good,
     )
 
-pub returns : goal.returns
-returns c =
+pub returns-in-Ok-Entry : goal.returns-in-Ok-Entry
+returns-in-Ok-Entry c =
     let b : List ℕ = c.args.image.now in
     let size : length b ≡ slot_count * record_length = omega arith in
     let small : Bytes b = λ i. search rules in
     let good = image_of_good c.args.edition b size small c.check-found.result c.check-found.ensures (not-false _ c.if-not-found.false) in
+    let met = c.in-Ok-Entry.ensures {u = tt {0}} in
     decided_enters slot_count c.args.edition b size small c.check-found.result c.check-found.ensures good
-    c.args.r c.refusal-verdict.result c.refusal-verdict.ensures c.if-verdict-gt-ACCEPTED.false c.if-r-eq-OWN_WRITE.false
-    c.turned-turn.result c.turned-turn.ensures c.settled.ensures
+    c.args.r _ met.verdict refl _ (met.call ∙ ap Ok c.in-Ok-Entry.field-0-is)
+    c.turned-turn.result (rw c.in-Ok-Entry.entry-is at c.turned-turn.ensures) c.settled.ensures

@@ -6,11 +6,17 @@ use Rattle.queue.proofs.first_ready.Goals as goal
 
 pub returns-then-p-eq-PRIORITIES : goal.returns-then-p-eq-PRIORITIES
 returns-then-p-eq-PRIORITIES c =
-    first_ends priorities _ priorities (omega arith) (λ j h. c.loop-p.invariant.1 j (omega arith)) (λ h. absurd (omega arith))
+    record {
+      found = first_ends priorities _ priorities (omega arith) (λ j h. c.loop-p.invariant.1 j (omega arith)) (λ h. absurd (omega arith));
+      below = tt {0};
+    }
 
 pub returns-then-rows-p-gt0 : goal.returns-then-rows-p-gt0
 returns-then-rows-p-gt0 c =
-    first_ends priorities _ c.loop-p.p c.loop-p.invariant.0 c.loop-p.invariant.1 (λ h. lt-ltb _ _ (omega arith))
+    record {
+      found = first_ends priorities _ c.loop-p.p c.loop-p.invariant.0 c.loop-p.invariant.1 (λ h. lt-ltb _ _ (omega arith));
+      below = omega arith;
+    }
 
 pub loop-p-preserved : goal.loop-p-preserved
 loop-p-preserved c = (omega arith, below_more _ _ c.loop-p.invariant.1 (le-ltb 0 _ (omega arith)))

@@ -1,9 +1,6 @@
--- `numbers` is safe and ends: there is a place for the number that is read.
-use Rattle.std.proofs.Common.{◌<◌, ◌-◌, length}
+-- `numbers` is safe: there is a place for the number that is read.
+use Rattle.std.proofs.Common.{◌<◌}
 use Rattle.broken_tables.proofs.text.numbers.Given as goal
 
-abbrev pub invariant-loop-p : goal.invariant-loop-p
-invariant-loop-p l = l.i < 8
-
-abbrev pub decreases-loop-p : goal.decreases-loop-p
-decreases-loop-p l = length l.line - l.p
+abbrev pub invariant-loop-byte : goal.invariant-loop-byte
+invariant-loop-byte l = l.i < 8

@@ -15,5 +15,5 @@ returns c =
     let many : c.at_most-len.result ≡ min (f 40) hearers = rw (c.at_most-len.ensures, c.word.ensures) in
     let next : c.after-next.result ≡ after (phase_of (f 0) (f 1)) size (min (f 40) hearers) = rw (c.after-next.ensures, now, many) in
     c.put_word-2.ensures
-    ∙ rw (c.put_word.ensures, c.phase_code.ensures, c.place.ensures, next)
+    ∙ rw (c.from.ensures, c.put_word.ensures, c.phase_code.ensures, c.place.ensures, next)
     (asked_in_place bytes (λ i. search rules) c.requires.0 c.requires.1)

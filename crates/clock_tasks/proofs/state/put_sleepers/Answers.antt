@@ -6,7 +6,6 @@ pub loop-i-preserved : goal.loop-i-preserved
 loop-i-preserved c =
     let at = c.loop-i in
     let l : length c.args.row.places ≡ 16 = omega arith in (
-      omega arith,
-      simp length-set at.invariant.1,
-      pair_more c.args.words.now _ c.args.row.places at.i (omega arith) (omega arith) at.invariant.2,
+      simp length-set at.invariant.0,
+      pair_more c.args.words.now _ c.args.row.places at.i (omega arith) (omega arith) at.invariant.1,
     )

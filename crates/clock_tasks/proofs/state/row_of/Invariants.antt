@@ -1,5 +1,5 @@
 -- The sleepers that were passed are read, and the other places hold zeros.
-use Rattle.std.proofs.Common.{◌≡◌, ◌-◌, ◌≤◌, ◌++◌, drop, replicate}
+use Rattle.std.proofs.Common.{◌≡◌, ◌≤◌, ◌++◌, drop, replicate}
 use Rattle.clock.specs.Row.{room, sleeper}
 use Rattle.clock_tasks.proofs.Rows.{sleeper_in}
 use Rattle.clock_tasks.proofs.Filled.{firsts}
@@ -10,6 +10,3 @@ abbrev pub invariant-loop-i : goal.invariant-loop-i
 invariant-loop-i l =
     (l.len ≤ 16) × (l.i ≤ l.len)
     × (l.places ≡ firsts (sleeper_in (ws (word_in l.state))) l.i ++ drop l.i (replicate room (sleeper 0 0)))
-
-abbrev pub decreases-loop-i : goal.decreases-loop-i
-decreases-loop-i l = l.len - l.i

@@ -10,13 +10,16 @@ returns c =
     rw (
       ← c.phase_code.ensures,
       ← c.place.ensures,
+      ← c.from.ensures,
+      ← c.from-2.ensures,
       ← c.status_of.ensures,
       ← c.count_of.ensures,
       ← c.asleep.ensures,
       ← c.answered.ensures,
+      ← c.from-3.ensures,
     )
     (words_made
-    (c.phase_code.result ∷ c.place.result ∷ s.priority ∷ s.clock.notifier ∷ s.clock.count ∷ c.status_of.result
+    (c.phase_code.result ∷ c.from.result ∷ c.from-2.result ∷ s.clock.notifier ∷ s.clock.count ∷ c.status_of.result
     ∷ c.count_of.result ∷ c.asleep.result ∷ [])
-    (pairs s.clock.row.places) s.to.tids _ _ c.answered.result refl (length_pairs s.clock.row.places ∙ ap (λ (n : ℕ). 2 * n) l) m
+    (pairs s.clock.row.places) s.to.tids _ _ c.from-3.result refl (length_pairs s.clock.row.places ∙ ap (λ (n : ℕ). 2 * n) l) m
     c.put_sleepers.ensures c.put_hearers.ensures)

@@ -5,12 +5,9 @@ use Rattle.clock_tasks.proofs.words.put_words.Goals as goal
 
 pub loop-i-init : goal.loop-i-init
 unfolding flatten
-loop-i-init c = (omega arith, refl)
+loop-i-init c = refl
 
 pub loop-i-preserved : goal.loop-i-preserved
 loop-i-preserved c =
-    let at = c.loop-i in (
-      omega arith,
-      c.put_word.ensures
-          ∙ rw add-one (put_more c.args.words.now c.args.bytes.now at.bytes at.i (omega arith) c.requires.1 at.invariant.1),
-    )
+    let at = c.loop-i in
+    c.put_word.ensures ∙ rw add-one (put_more c.args.words.now c.args.bytes.now at.bytes at.i (omega arith) c.requires.1 at.invariant)

@@ -6,12 +6,11 @@ use Rattle.clock_tasks.proofs.words.read_words.Goals as goal
 
 pub loop-i-init : goal.loop-i-init
 unfolding numbers
-loop-i-init c = (omega arith, refl, refl)
+loop-i-init c = (refl, refl)
 
 pub loop-i-preserved : goal.loop-i-preserved
 loop-i-preserved c =
     let at = c.loop-i in (
-      omega arith,
-      length-set at.words at.i c.word_at.result ∙ at.invariant.1,
-      rw (at.invariant.2, c.word_at.ensures, add-one) (fill_more (λ k. number_in c.args.bytes.now (4 * k) 4) c.args.words.now at.i (omega arith)),
+      length-set at.words at.i c.word_at.result ∙ at.invariant.0,
+      rw (at.invariant.1, c.word_at.ensures, add-one) (fill_more (λ k. number_in c.args.bytes.now (4 * k) 4) c.args.words.now at.i (omega arith)),
     )

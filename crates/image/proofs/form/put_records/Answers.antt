@@ -14,7 +14,7 @@ ends from to s l = (record_ends slot_count from s l, record_ends slot_count to s
 
 pub loop-s-init : goal.loop-s-init
 unfolding in_order
-loop-s-init c = (omega arith, refl, rw zero-mul)
+loop-s-init c = (refl, rw zero-mul)
 
 pub overflow_mul-at : goal.overflow_mul-at
 overflow_mul-at c = search (rules, ends c.args.from c.args.to c.loop-s.s (omega arith))
@@ -45,11 +45,10 @@ loop-s-preserved c = let from : ℕ = c.args.from in
     let lent : s * from + from - s * from ≡ from = omega arith in
     let whole : fitted to (take (s * from + from - s * from) (drop (s * from) image)) ≡ put from to image s =
     ap (λ (k : ℕ). fitted to (take k (drop (s * from) image))) lent in (
-      omega arith,
       search rules,
       c.put_fitted.ensures
           ∙ ap (λ (r : List ℕ). paste c.loop-s.out (s * to) r to) whole
-          ∙ image_more to (put from to image) (λ s. length_fitted to (record_at from image s)) s c.args.out.now c.loop-s.out c.loop-s.invariant.2,
+          ∙ image_more to (put from to image) (λ s. length_fitted to (record_at from image s)) s c.args.out.now c.loop-s.out c.loop-s.invariant.1,
     )
 
 pub returns : goal.returns
@@ -57,5 +56,5 @@ unfolding reformed
 returns c = let to : ℕ = c.args.to in
     let before : List ℕ = c.args.out.now in
     let end : c.loop-s.s ≡ slot_count = omega arith in
-    c.loop-s.invariant.2
+    c.loop-s.invariant.1
     ∙ rw (end, drop_of_length-le before {i = slot_count * to} (omega arith), append-nil)

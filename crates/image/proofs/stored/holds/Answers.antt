@@ -1,19 +1,14 @@
-use Rattle.std.proofs.Common.{◌≡◌, arith}
-use Rattle.tid.specs.Sizes.{slot_count}
-use Rattle.queue.proofs.Below.{tells_none, tells_more, tells_all}
-use Rattle.kernel.specs.Table.{slots}
-use Rattle.kernel.proofs.Owned.{owned_shaped}
+-- `image::stored::holds` meets its contract: where the form has no entry number, each task's is asked.
+use Rattle.std.proofs.Common.{◌==◌, ◌∙◌, refl, rules, tests}
+use Rattle.std.proofs.lemmas.Iterator.{YieldsList-from_slice}
+use Rattle.std.proofs.lemmas.Iterator.Search.{all_from_yields_List}
+use Rattle.task.specs.declared.task.Task.{Task}
+use Rattle.task.specs.Task.{no_task}
+use Rattle.queue.proofs.Chains.{list_all_below}
 use Rattle.image.proofs.stored.holds.Goals as goal
 
-pub returns-then-form : goal.returns-then-form
-returns-then-form c = rw c.if-form.true
-
-pub loop-s-init : goal.loop-s-init
-loop-s-init c = tells_none slot_count _
-
-pub loop-s-preserved : goal.loop-s-preserved
-loop-s-preserved c = tells_more c.loop-s.invariant (omega arith)
-
-pub returns : goal.returns
-returns c = let count : slots c.args.table ≡ slot_count = (owned_shaped c.args.table _ c.well_formed.1.0).tasks in
-    rw (c.if-form.false, count) (tells_all c.loop-s.invariant (omega arith))
+pub returns-else-form : goal.returns-else-form
+returns-else-form c = let t = c.args.table in
+    rw c.if-form.false
+    (all_from_yields_List (λ (x : Task). x.entry == 0) _ _ _ c.all.ensures.ran (YieldsList-from_slice t.tasks cc) (λ x b q k. search (rules, tests))
+    ∙ list_all_below (λ (x : Task). x.entry == 0) t.tasks no_task refl)

@@ -14,8 +14,8 @@ returns c =
     let l : length q.marks ≡ places = omega arith in
     let put : c.if-p-lt-PLACES.q ≡ record { marks = set q.marks place mark; len = q.len } =
     elim c.if-p-lt-PLACES.branch [
-      | then-p-lt-PLACES w ↦ w.q-is
-      | else-p-lt-PLACES w ↦ w.q-is ∙ rw (set_out q.marks place mark (omega arith))
+      | then-p-lt-PLACES w ↦ w.q-is ∙ rw c.wide-p.ensures
+      | else-p-lt-PLACES w ↦ w.q-is ∙ rw (set_out q.marks place mark (omega (arith, c.wide-p.ensures)))
     ] in
     let reaches : c.reach.result ≡ max q.len (min (place + 1) (length q.marks)) =
     c.reach.ensures ∙ rw (ap (λ (x : Queue). x.len) put, l) in

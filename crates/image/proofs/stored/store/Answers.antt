@@ -29,7 +29,7 @@ found c =
 
 pub loop-s-init : goal.loop-s-init
 unfolding in_order
-loop-s-init c = (omega arith, refl, refl)
+loop-s-init c = (refl, refl)
 
 pub overflow_cast-place : goal.overflow_cast-place
 overflow_cast-place c = omega (arith, found (goal.at.overflow_cast-place c).Joined-k-lt-QUEUES, stored_most (owned_shaped c.args.table _ c.well_formed.0) c.loop-s.s)
@@ -39,14 +39,13 @@ loop-s-preserved c = let t = c.args.table in
     let s : ℕ = c.loop-s.s in
     let out : List ℕ = c.loop-s.out in
     let made = c.record_of.ensures ∙ ap (task_record (task_at t s)) (found (goal.at.loop-s-preserved c).Joined-k-lt-QUEUES) in (
-      omega arith,
       search rules,
       c.put_record.ensures
           ∙ ap (λ (r : List ℕ). paste out (s * record_length) r record_length) made
-          ∙ image_more record_length (record_of t) (length_record_of t) s c.args.out.now out c.loop-s.invariant.2,
+          ∙ image_more record_length (record_of t) (length_record_of t) s c.args.out.now out c.loop-s.invariant.1,
     )
 
 pub returns : goal.returns
 returns c = let t = c.args.table in
     let count : slots t ≡ slot_count = (owned_shaped t _ c.well_formed.0).tasks in
-    c.loop-s.invariant.2 ∙ image_all t c.args.out.now c.loop-s.s (omega arith) (omega arith)
+    c.loop-s.invariant.1 ∙ image_all t c.args.out.now c.loop-s.s (omega arith) (omega arith)

@@ -19,8 +19,8 @@ woke c = elim c.if-woken-lt-SLOTS.branch [
 
 -- then those once the caller has joined too, or was left
 ended : (c : Joined-c-lt-SLOTS) →
-    (c.if-c-lt-SLOTS.image ≡ end_bytes slot_count c.args.image.now c.args.count.now c.args.c c.args.turn)
-    × (c.if-c-lt-SLOTS.count ≡ end_count slot_count c.args.image.now c.args.count.now c.args.c c.args.turn)
+    (c.if-c-lt-SLOTS.image ≡ end_bytes slot_count c.args.image.now c.args.count.now c.args.caller.slot c.args.turn)
+    × (c.if-c-lt-SLOTS.count ≡ end_count slot_count c.args.image.now c.args.count.now c.args.caller.slot c.args.turn)
 unfolding end_bytes end_count
 ended c =
     let first = woke (goal.at.Joined-c-lt-SLOTS c).Joined-woken-lt-SLOTS in
@@ -43,5 +43,5 @@ dispatch-answer-requires c =
 pub returns : goal.returns
 returns c =
     let a = c.args in
-    dispatched_does (table_of slot_count a.edition (end_bytes slot_count a.image.now a.count.now a.c a.turn)) a.turn.effect
+    dispatched_does (table_of slot_count a.caller.edition (end_bytes slot_count a.image.now a.count.now a.caller.slot a.turn)) a.turn.effect
     (rw (ended (goal.at.returns c).Joined-c-lt-SLOTS).0 at c.dispatch-answer.ensures)

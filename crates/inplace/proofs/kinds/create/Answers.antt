@@ -17,5 +17,5 @@ pub returns : goal.returns
 returns c = let (running, begins) = c.requires in
     let a = c.args in
     let word : entry_of a.entry ≡ a.entry = omega arith in
-    rw (c.number.ensures, c.tid_of-2.ensures, c.put.ensures, c.fields_of.ensures, c.tid_of.ensures, in_byte a.c (omega arith), in_byte a.used (omega arith))
+    rw (c.resumes-2.ensures, c.number.ensures, c.tid_of-2.ensures, c.put.ensures, c.fields_of.ensures, c.tid_of.ensures, in_byte a.caller.slot (omega arith), in_byte a.caller.used (omega arith))
     (rw word at (create_adds begins (omega arith) running a.priority a.entry c.if-priority-ge-PRIORITIES.false c.if-used-ge-SLOTS.false))

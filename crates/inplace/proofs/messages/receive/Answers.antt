@@ -24,56 +24,56 @@ returns-then-not-good_buffer c = let (running, begins) = c.requires in
     let bad : good_buffer c.args.b ≡ false = sym c.good_buffer.ensures ∙ c.if-not-good_buffer.true in
     rw c.resumes.ensures (receive_unfit begins (omega arith) running c.args.b bad)
 
-pub returns-then-count-c-eq0 : goal.returns-then-count-c-eq0
-returns-then-count-c-eq0 c = let (running, begins) = c.requires in
-    rw c.stops.ensures (receive_waits begins (omega arith) running c.args.b (sym c.good_buffer.ensures ∙ c.if-not-good_buffer.false) c.if-count-c-eq0.true)
+pub returns-then-count-caller-eq0 : goal.returns-then-count-caller-eq0
+returns-then-count-caller-eq0 c = let (running, begins) = c.requires in
+    rw c.stops.ensures (receive_waits begins (omega arith) running c.args.b (sym c.good_buffer.ensures ∙ c.if-not-good_buffer.false) c.if-count-caller-eq0.true)
 
 pub overflow_mul-at : goal.overflow_mul-at
 overflow_mul-at c =
     let (running, begins) = c.requires in
     let fit : good_buffer c.args.b ≡ true = sym c.good_buffer.ensures ∙ c.if-not-good_buffer.false in
-    let own : c.tid_of.result ≡ tid_of c.args.c = c.tid_of.ensures ∙ rw (in_byte c.args.c (omega arith)) in
-    let l = sends c.args.b running begins fit own c.close_up-s.ensures.head c.if-count-c-eq0.false in
+    let own : c.tid_of-own.result ≡ tid_of c.args.caller.slot = c.tid_of-own.ensures ∙ rw (in_byte c.args.caller.slot (omega arith)) in
+    let l = sends c.args.b running begins fit own c.close_up-s.ensures.head c.if-count-caller-eq0.false in
     search rules
 
 pub overflow_add-at : goal.overflow_add-at
 overflow_add-at c =
     let (running, begins) = c.requires in
     let fit : good_buffer c.args.b ≡ true = sym c.good_buffer.ensures ∙ c.if-not-good_buffer.false in
-    let own : c.tid_of.result ≡ tid_of c.args.c = c.tid_of.ensures ∙ rw (in_byte c.args.c (omega arith)) in
-    let l = sends c.args.b running begins fit own c.close_up-s.ensures.head c.if-count-c-eq0.false in
+    let own : c.tid_of-own.result ≡ tid_of c.args.caller.slot = c.tid_of-own.ensures ∙ rw (in_byte c.args.caller.slot (omega arith)) in
+    let l = sends c.args.b running begins fit own c.close_up-s.ensures.head c.if-count-caller-eq0.false in
     search rules
 
 pub buffer_at-sent-requires : goal.buffer_at-sent-requires
 buffer_at-sent-requires c =
     let (running, begins) = c.requires in
     let fit : good_buffer c.args.b ≡ true = sym c.good_buffer.ensures ∙ c.if-not-good_buffer.false in
-    let own : c.tid_of.result ≡ tid_of c.args.c = c.tid_of.ensures ∙ rw (in_byte c.args.c (omega arith)) in
-    let l = sends c.args.b running begins fit own c.close_up-s.ensures.head c.if-count-c-eq0.false in
+    let own : c.tid_of-own.result ≡ tid_of c.args.caller.slot = c.tid_of-own.ensures ∙ rw (in_byte c.args.caller.slot (omega arith)) in
+    let l = sends c.args.b running begins fit own c.close_up-s.ensures.head c.if-count-caller-eq0.false in
     search rules
 
 pub overflow_add-at-2 : goal.overflow_add-at-2
 overflow_add-at-2 c =
     let (running, begins) = c.requires in
     let fit : good_buffer c.args.b ≡ true = sym c.good_buffer.ensures ∙ c.if-not-good_buffer.false in
-    let own : c.tid_of.result ≡ tid_of c.args.c = c.tid_of.ensures ∙ rw (in_byte c.args.c (omega arith)) in
-    let l = sends c.args.b running begins fit own c.close_up-s.ensures.head c.if-count-c-eq0.false in
+    let own : c.tid_of-own.result ≡ tid_of c.args.caller.slot = c.tid_of-own.ensures ∙ rw (in_byte c.args.caller.slot (omega arith)) in
+    let l = sends c.args.b running begins fit own c.close_up-s.ensures.head c.if-count-caller-eq0.false in
     search rules
 
-pub buffer_at-reply-requires : goal.buffer_at-reply-requires
-buffer_at-reply-requires c =
+pub buffer_at-requires : goal.buffer_at-requires
+buffer_at-requires c =
     let (running, begins) = c.requires in
     let fit : good_buffer c.args.b ≡ true = sym c.good_buffer.ensures ∙ c.if-not-good_buffer.false in
-    let own : c.tid_of.result ≡ tid_of c.args.c = c.tid_of.ensures ∙ rw (in_byte c.args.c (omega arith)) in
-    let l = sends c.args.b running begins fit own c.close_up-s.ensures.head c.if-count-c-eq0.false in
+    let own : c.tid_of-own.result ≡ tid_of c.args.caller.slot = c.tid_of-own.ensures ∙ rw (in_byte c.args.caller.slot (omega arith)) in
+    let l = sends c.args.b running begins fit own c.close_up-s.ensures.head c.if-count-caller-eq0.false in
     search rules
 
 pub leave-requires : goal.leave-requires
 leave-requires c =
     let (running, begins) = c.requires in
     let fit : good_buffer c.args.b ≡ true = sym c.good_buffer.ensures ∙ c.if-not-good_buffer.false in
-    let own : c.tid_of.result ≡ tid_of c.args.c = c.tid_of.ensures ∙ rw (in_byte c.args.c (omega arith)) in
-    let l = sends c.args.b running begins fit own c.close_up-s.ensures.head c.if-count-c-eq0.false in
+    let own : c.tid_of-own.result ≡ tid_of c.args.caller.slot = c.tid_of-own.ensures ∙ rw (in_byte c.args.caller.slot (omega arith)) in
+    let l = sends c.args.b running begins fit own c.close_up-s.ensures.head c.if-count-caller-eq0.false in
     search rules
 
 pub returns : goal.returns
@@ -82,9 +82,9 @@ returns c =
     let a = c.args in
     let s = c.close_up-s.result in
     let fit : good_buffer a.b ≡ true = sym c.good_buffer.ensures ∙ c.if-not-good_buffer.false in
-    let own : c.tid_of.result ≡ tid_of a.c = c.tid_of.ensures ∙ rw (in_byte a.c (omega arith)) in
-    let l = sends a.b running begins fit own c.close_up-s.ensures.head c.if-count-c-eq0.false in
+    let own : c.tid_of-own.result ≡ tid_of a.caller.slot = c.tid_of-own.ensures ∙ rw (in_byte a.caller.slot (omega arith)) in
+    let l = sends a.b running begins fit own c.close_up-s.ensures.head c.if-count-caller-eq0.false in
     let head = rw own at c.close_up-s.ensures.head in
     let bytes = rw own at c.close_up-s.ensures.image in
-    rw (c.is_cut.ensures, c.delivery-copy.ensures, c.tid_of-2.ensures, c.tid_of-sender.ensures, in_byte s (omega arith), in_byte a.c (omega arith), slot_of_mark s, slot_of_mark a.c)
-    (receive_takes begins (omega arith) running a.b fit s head c.if-count-c-eq0.false _ _ c.buffer_at-sent.result c.buffer_at-reply.result bytes c.buffer_at-sent.ensures c.buffer_at-reply.ensures c.leave.ensures)
+    rw (c.resumes-2.ensures, c.is_cut.ensures, c.delivery-copy.ensures, c.tid_of-own.ensures, c.tid_of-from.ensures, in_byte s (omega arith), in_byte a.caller.slot (omega arith), slot_of_mark s, slot_of_mark a.caller.slot)
+    (receive_takes begins (omega arith) running a.b fit s head c.if-count-caller-eq0.false _ _ c.buffer_at-sent.result c.buffer_at.result bytes c.buffer_at-sent.ensures c.buffer_at.ensures c.leave.ensures)

@@ -11,7 +11,7 @@ loop-s-init c = (omega arith, refl, refl, refl)
 pub loop-s-preserved : goal.loop-s-preserved
 loop-s-preserved c = let a = c.args in
     let more =
-    close_more a.code a.at a.key slot_count c.requires.1.1 a.image.now c.loop-s.image c.up_at-head.new.image c.loop-s.s c.loop-s.head
+    close_more a.queue.code a.queue.at a.queue.key slot_count c.requires.1.1 a.image.now c.loop-s.image c.up_at-head.new.image c.loop-s.s c.loop-s.head
     c.up_at-head.result c.loop-s.invariant.2 c.loop-s.invariant.3 c.up_at-head.ensures.image c.up_at-head.ensures.found in
     (omega arith, search rules, more.0, more.1)
 

@@ -1,12 +1,12 @@
-use Rattle.std.proofs.Common.{arith}
-use Rattle.queue.proofs.Below.{tells_none, tells_more, tells_all}
+use Rattle.std.proofs.Common.{rules, tests, ◌∙◌}
+use Rattle.std.proofs.lemmas.Iterator.{YieldsList-from_slice}
+use Rattle.std.proofs.lemmas.Iterator.Search.{all_from_yields_List}
+use lib.ListN.{take, drop}
+use Rattle.kernel.specs.Edition.{may_wait}
+use Rattle.rules.proofs.Walk.{events_fit}
 use Rattle.rules.proofs.slots.waiters_fit.Goals as goal
 
-pub loop-e-init : goal.loop-e-init
-loop-e-init c = tells_none _ _
-
-pub loop-e-preserved : goal.loop-e-preserved
-loop-e-preserved c = rw c.may_wait-fit.ensures (tells_more c.loop-e.invariant (omega arith))
-
 pub returns : goal.returns
-returns c = tells_all c.loop-e.invariant (omega arith)
+returns c =
+    all_from_yields_List (λ q. may_wait c.args.edition q.len) _ _ _ c.all.ensures.ran (YieldsList-from_slice (take 64 (drop 32 c.args.queues)) (search (rules, tests))) (λ x b q k. search (rules, tests))
+    ∙ events_fit c.args.edition c.args.queues (search rules)

@@ -1,4 +1,5 @@
-use Rattle.std.proofs.Common.{◌+◌, ◌≤◌, length, arith, le-leb}
+use Rattle.std.proofs.Common.{◌≡◌, ◌+◌, ◌/◌, ◌%◌, ◌≤◌, length, arith, le-leb, rules}
+use Rattle.image.specs.Bytes.{bytes_of}
 use Rattle.image.proofs.Made.{four_stored}
 use Rattle.server.proofs.words.put_word.Goals as goal
 
@@ -6,5 +7,8 @@ pub returns : goal.returns
 returns c =
     let out = c.args.out.now in
     let at = c.args.at in
+    let x = c.args.x in
     let room : at + 4 ≤ length out = omega arith in
-    rw (le-leb _ _ room, c.byte_of.ensures, c.byte_of-2.ensures, c.byte_of-3.ensures, c.byte_of-4.ensures) (four_stored out at _ _ _ _ room)
+    let bytes : c.to_le_bytes.result ≡ bytes_of 4 x = search rules in
+    rw (c.from-first.ensures, bytes, le-leb _ _ room)
+    (four_stored out at (x % 256) (x / 256 % 256) (x / 256 / 256 % 256) (x / 256 / 256 / 256 % 256) room)

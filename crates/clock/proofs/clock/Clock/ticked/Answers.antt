@@ -1,36 +1,34 @@
-use Rattle.std.proofs.Common.{◌≡◌, ◌<◌, length, get_or, take, add-one, arith, length-take, take-suc}
-use Rattle.clock.specs.Row.{picked, sleeper}
-use Rattle.clock.proofs.Sorted.{sorted_more, sorted_all}
-use Rattle.clock.proofs.Lists.{walk_ends}
+use Rattle.std.proofs.Common.{◌≡◌, ◌+◌, ◌<◌, ◌≤◌, ◌∷◌, ◌++◌, [], length, get_or, take, add-one, refl, sym, ◌∙◌, arith, length-take, take-suc, take_all}
+use Rattle.clock.specs.Row.{room, picked, sleeper, asleep}
+use Rattle.clock.proofs.Sorted.{sorted_due, sorted_kept, sorted_all}
 use Rattle.clock.proofs.clock.Clock.ticked.Goals as goal
+use Rattle.clock.proofs.clock.Clock.ticked.Goals.{then-is_due, else-is_due}
 
-pub loop-i-init : goal.loop-i-init
+pub loop-x-init : goal.loop-x-init
 unfolding picked
-loop-i-init c = (omega arith, omega arith, record { kept = c.empty-row.ensures; heard = c.one-to.ensures })
+loop-x-init c = record { kept = c.empty-row.ensures; heard = c.one-to.ensures }
 
-pub loop-i-preserved : goal.loop-i-preserved
-loop-i-preserved c =
-    let places = c.args.self.row.places in
-    let at = c.loop-i in
-    let here : at.i < length places = omega arith in
-    let fewer : length (take at.i places) < 16 = simp length-take (omega arith) in (
-      omega arith,
-      omega arith,
-      rw (add-one, take-suc places at.i (sleeper 0 0) here, c.pushed_if-row.ensures, c.pushed_if-to.ensures, c.is_due-due.ensures)
-          (sorted_more (get_or places at.i (sleeper 0 0)) fewer at.invariant.2),
-    )
+pub loop-x-preserved : goal.loop-x-preserved
+loop-x-preserved c =
+    let xs = c.asleep-x-items.result.now in
+    let i = c.loop-x.x-index in
+    let here : i < length xs = omega arith in
+    let most : length xs ≤ room = rw (c.asleep-x-items.ensures, length-take) (omega arith) in
+    let fewer : length (take i xs) < room = simp length-take (omega arith) in
+    let next : take (i + 1) xs ≡ take i xs ++ (get_or xs i (sleeper 0 0) ∷ []) = rw add-one (take-suc xs i (sleeper 0 0) here) in
+    let x = get_or xs i (sleeper 0 0) in
+    rw next
+    (elim c.if-is_due.branch [
+      | then-is_due w ↦
+          rw (w.row-is, w.to-is, w.push.ensures) (sorted_due x fewer (sym c.is_due.ensures ∙ w.if-is_due.true) c.loop-x.invariant)
+      | else-is_due w ↦
+          rw (w.to-is, w.row-is, w.push-else-is_due.ensures) (sorted_kept x fewer (sym c.is_due.ensures ∙ w.if-is_due.false) c.loop-x.invariant)
+    ])
 
-pub returns-after-loop-i : goal.returns-after-loop-i
-returns-after-loop-i c =
-    let clock = c.args.self in
-    let at = c.loop-i in
-    sorted_all clock _ c.wrapping_add_u32-count.ensures.value
-    (rw (← (walk_ends clock.row.places at.i clock.row.len at.invariant.0 (λ h k. omega arith))) at.invariant.2)
-
-pub returns-else-i-lt-ROOM : goal.returns-else-i-lt-ROOM
-returns-else-i-lt-ROOM c =
-    let clock = c.args.self in
-    let at = c.loop-i in
-    let l : length clock.row.places ≡ 16 = omega arith in
-    sorted_all clock _ c.wrapping_add_u32-count.ensures.value
-    (rw (← (walk_ends clock.row.places at.i clock.row.len at.invariant.0 (λ h k. omega arith))) at.invariant.2)
+pub returns : goal.returns
+returns c =
+    let clock = c.args.self.now in
+    let xs = c.asleep-x-items.result.now in
+    let i = c.loop-x.x-index in
+    let all : take i xs ≡ asleep clock.row = take_all i xs (omega arith) ∙ c.asleep-x-items.ensures in
+    sorted_all clock _ refl (rw (← all) c.loop-x.invariant)

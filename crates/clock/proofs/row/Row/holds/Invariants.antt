@@ -1,10 +1,7 @@
--- `found` says whether the tid is among the first i places.
-use Rattle.std.proofs.Common.{◌≡◌, ◌-◌, ◌≤◌, eqb, take}
-use Rattle.clock.specs.Row.{some}
+-- `found` says whether the tid is among the sleepers passed.
+use Rattle.std.proofs.Common.{◌≡◌, ◌==◌, take}
+use Rattle.std.specs.List.{list_any}
 use Rattle.clock.proofs.row.Row.holds.Given as goal
 
-abbrev pub invariant-loop-i : goal.invariant-loop-i
-invariant-loop-i l = (l.i ≤ l.len) × (l.i ≤ 16) × (l.found ≡ some (λ x. eqb x.tid l.tid) (take l.i l.places))
-
-abbrev pub decreases-loop-i : goal.decreases-loop-i
-decreases-loop-i l = l.len - l.i
+abbrev pub invariant-loop-x : goal.invariant-loop-x
+invariant-loop-x l = l.found ≡ list_any (λ x. x.tid == l.tid) (take l.x-index l.x-items)

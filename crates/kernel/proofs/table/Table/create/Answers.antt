@@ -1,5 +1,5 @@
 -- `Table::create`: the slot that it takes is the first unused one.
-use Rattle.std.proofs.Common.{le-leb, ◌≡◌, ◌∙◌, ap, arith}
+use Rattle.std.proofs.Common.{◌≡◌, ◌∙◌, ap, arith}
 use borrow.Author.Tests.{lt-leb}
 use Rattle.tid.proofs.Byte.{in_byte}
 use Rattle.kernel.proofs.Owned.{owned_shaped}
@@ -18,17 +18,6 @@ found : (p : After-used_slots-s) → p.used_slots-s.result ≡ used_slots p.args
 unfolding used_slots
 found p = rw (slots_all (goal.at.After-used_slots-s p).Start) p.used_slots-s.ensures
 
-pub returns-then-priority-ge-PRIORITIES : goal.returns-then-priority-ge-PRIORITIES
-unfolding create
-returns-then-priority-ge-PRIORITIES c = rw (le-leb priorities c.args.priority (omega arith)) c.resumes.ensures
-
-pub returns-then-s-ge-SLOTS : goal.returns-then-s-ge-SLOTS
-unfolding create
-returns-then-s-ge-SLOTS c = let t = c.args.self in
-    let n = slots_all (goal.at.returns-then-s-ge-SLOTS c).Start in
-    let first = found (goal.at.returns-then-s-ge-SLOTS c).After-used_slots-s in
-    rw (lt-leb priorities c.args.priority (omega arith), le-leb (slots t) (used_slots t) (omega arith)) c.resumes-then-s-ge-SLOTS.ensures
-
 pub returns : goal.returns
 unfolding create
 returns c = let t = c.args.self in
@@ -36,4 +25,4 @@ returns c = let t = c.args.self in
     let first = found (goal.at.returns c).After-used_slots-s in
     let parent : c.tid_of.result ≡ tid_of c.args.c = c.tid_of.ensures ∙ ap tid_of (in_byte c.args.c (omega arith)) in
     let word : entry_of c.args.entry ≡ c.args.entry = omega arith in
-    rw (c.number.ensures, c.tid_of-2.ensures, c.alone.ensures, c.mark_of.ensures, c.with_task.ensures, parent, word, in_byte c.used_slots-s.result (omega arith), first, lt-leb priorities c.args.priority (omega arith), lt-leb (slots t) (used_slots t) (omega arith))
+    rw (c.resumes-2.ensures, c.number.ensures, c.from.ensures, c.tid_of-2.ensures, c.alone.ensures, c.mark_of.ensures, c.with_task.ensures, parent, word, in_byte c.used_slots-s.result (omega arith), first, lt-leb priorities c.args.priority (omega arith), lt-leb (slots t) (used_slots t) (omega arith))

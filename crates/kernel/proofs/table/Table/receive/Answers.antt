@@ -1,5 +1,5 @@
--- `Table::receive`: the head of the send queue is delivered, or the caller waits.
-use Rattle.std.proofs.Common.{rules, ne_eqb, eqb, false, true, ◌∙◌, ◌≡◌, ap, sym, arith}
+-- `Table::receive`: a message that is delivered. The search finds it too, but of a wrong text it would say no more than that it gave up.
+use Rattle.std.proofs.Common.{ne_eqb, eqb, false, true, ◌∙◌, ◌≡◌, ap, sym, arith}
 use Rattle.tid.proofs.Byte.{in_byte}
 use Rattle.tid.proofs.Trips.{slot_of_mark}
 use Rattle.kernel.specs.Kinds.{receive}
@@ -15,23 +15,10 @@ good p = sym p.good_buffer.ensures ∙ p.if-not-good_buffer.false
 own : (p : After-send_queue-k) → p.send_queue-k.result ≡ send_queue p.args.c
 own p = omega (arith, p.send_queue-k.ensures, p.tid_of.ensures)
 
-pub returns-then-not-good_buffer : goal.returns-then-not-good_buffer
-unfolding receive
-returns-then-not-good_buffer c = let bad : good_buffer c.args.b ≡ false = sym c.good_buffer.ensures ∙ c.if-not-good_buffer.true in
-    rw bad c.resumes.ensures
-
-pub returns-then-q-eq0 : goal.returns-then-q-eq0
-unfolding receive
-returns-then-q-eq0 c = let none : (queue_at c.args.self (send_queue c.args.c)).len ≡ 0 = rw (← own (goal.at.returns-then-q-eq0 c).After-send_queue-k, ← c.queue-q.ensures) c.if-q-eq0.true in
-    rw (good (goal.at.returns-then-q-eq0 c).Else-not-good_buffer, none) c.stops.ensures
-
 pub returns : goal.returns
 unfolding receive
 returns c = let t = c.args.self in
     let k = send_queue c.args.c in
     let queue : c.queue-q.result ≡ queue_at t k = c.queue-q.ensures ∙ ap (queue_at t) (own (goal.at.returns c).After-send_queue-k) in
     let filled : eqb (queue_at t k).len 0 ≡ false = rw (← queue) (ne_eqb _ 0 c.if-q-eq0.false) in
-    rw (c.is_cut.ensures, c.delivery-copy.ensures, c.tid_of-2.ensures, c.tid_of-sender.ensures, in_byte c.slot_of-s.result c.slot_of-s.ensures.1, slot_of_mark c.slot_of-s.result, in_byte c.args.c (omega arith), slot_of_mark c.args.c, c.empty.ensures, c.with_task-table.ensures, c.with_queue.ensures, c.popped.ensures, c.becomes-waits.ensures, c.reply_of.ensures, c.message_of-sent.ensures, c.task-task.ensures, c.slot_of-s.ensures.0, queue, own (goal.at.returns c).After-send_queue-k, good (goal.at.returns c).Else-not-good_buffer, filled)
-
-pub with_queue-requires : goal.with_queue-requires
-with_queue-requires c = search (rules, own (goal.at.with_queue-requires c).After-send_queue-k, c.requires)
+    rw (c.resumes-2.ensures, c.is_cut.ensures, c.delivery-copy.ensures, c.tid_of-2.ensures, c.tid_of-sender.ensures, in_byte c.slot_of-s.result c.slot_of-s.ensures.1, slot_of_mark c.slot_of-s.result, in_byte c.args.c (omega arith), slot_of_mark c.args.c, c.left_as.ensures, c.with_queue.ensures, c.popped.ensures, c.reply_of.ensures, c.message_of-sent.ensures, c.task-state.ensures, c.slot_of-s.ensures.0, queue, own (goal.at.returns c).After-send_queue-k, good (goal.at.returns c).Else-not-good_buffer, filled)

@@ -1,9 +1,0 @@
--- `line_end`. The loop's invariant: the end is at or behind the start, and within the text.
-use Rattle.std.proofs.Common.{◌≤◌, ◌-◌, length}
-use Rattle.broken_tables.proofs.text.line_end.Given as goal
-
-abbrev pub invariant-loop-end : goal.invariant-loop-end
-invariant-loop-end l = (l.at ≤ l.end) × (l.end ≤ length l.text)
-
-abbrev pub decreases-loop-end : goal.decreases-loop-end
-decreases-loop-end l = length l.text - l.end

@@ -1,6 +1,0 @@
--- `random` ends: fewer bytes are left at each turn.
-use Rattle.std.proofs.Common.{◌-◌}
-use Rattle.damaged_images.proofs.whole.random.Given as goal
-
-abbrev pub decreases-loop-at : goal.decreases-loop-at
-decreases-loop-at l = 768 - l.at

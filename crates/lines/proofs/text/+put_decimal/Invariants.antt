@@ -1,5 +1,0 @@
--- `text::put_decimal`, which calls itself. The measure is the number.
-use Rattle.lines.proofs.text.+put_decimal.Given as goal
-
-abbrev pub decreases-put_decimal : goal.decreases-put_decimal
-decreases-put_decimal l = l.n
