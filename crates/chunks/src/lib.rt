@@ -72,25 +72,21 @@ pub fn read_chunk<'a, R: Read>(
     Ok(chunk)
 }
 
-// Runs cases until there is no other, which `case` answers by false. Where one cannot be run it says why, and runs no more. A proved loop
-// has to end, and nothing says that the input does.
-pub fn run_cases<P: Eprint, R: Read, F: FnMut(&mut R) -> Result<bool, CaseError>>(
-    err: &P,
+// Whether another case is to be run, by what came of the last, which answers false where there was none. Where one cannot be run this says
+// why, and no more are.
+pub fn goes_on(
+    err: &impl Eprint,
     program: &str,
-    from: &mut R,
-    mut case: F,
-) -> io::Result<()>
-    requires { F.IsAlwaysCallable case }
-{
-    for _ in 0..u64::MAX {
-        match case(from) {
-            Ok(true) => {}
-            Ok(false) => break,
-            Err(CaseError::Io(e)) => return Err(e),
-            Err(why) => return eprintln!(err; "{program}: {why}"),
+    done: Result<bool, CaseError>,
+) -> io::Result<bool> {
+    match done {
+        Ok(more) => Ok(more),
+        Err(CaseError::Io(e)) => Err(e),
+        Err(why) => {
+            eprintln!(err; "{program}: {why}")?;
+            Ok(false)
         }
     }
-    Ok(())
 }
 
 // Writes a word.
