@@ -1,10 +1,10 @@
-"""What edits/run and mutants/run share: a changed copy of a crate, checked in seconds over what an earlier check of the crate left,
-and what the prover said of it. The copies stand outside the repository, since rt ci reads every source below it."""
+"""What edits/run and mutants/run share: a changed copy of a crate, checked by rt over what its checks before left, and what the prover
+said of it. The copies stand outside the repository, since rt ci reads every source below it."""
 import atexit, os, pathlib, shutil, signal, subprocess, sys, tempfile
 
 sys.dont_write_bytecode = True
 sys.path.append(str(pathlib.Path(__file__).resolve().parent.parent / "tools"))
-from rattle import ROOT, depends, kit, words
+from rattle import ROOT, depends
 
 LIMIT = 900
 JOBS = int(os.environ.get("RT_JOBS") or os.cpu_count() or 1)
@@ -19,59 +19,47 @@ def wrong_word(command, why):
     sys.exit(2)
 
 
+def room(crate, worker=0):
+    """Where a worker's changed copies of a crate stand: in a copy of the repository, whose crates rt builds as it needs them."""
+    top = COPIES / f"room.{worker}"
+    if not top.is_dir():
+        shutil.copytree(ROOT / "crates", top / "crates", ignore=shutil.ignore_patterns("out", "must-fail"))
+        shutil.copy(ROOT / "crates.txt", top)
+    return top / "crates" / crate
+
+
 def copied(crate, where):
-    """A copy of the crate's text at `where`."""
-    shutil.rmtree(where, ignore_errors=True)
+    """The crate's text at `where`, in place of what stood there; what rt keeps beside it stays."""
     for part in ("src", "specs", "proofs"):
+        shutil.rmtree(where / part, ignore_errors=True)
         if (ROOT / "crates" / crate / part).is_dir():
             shutil.copytree(ROOT / "crates" / crate / part, where / part)
 
 
 def asked(command, log, where):
-    """Runs a command; its exit status, None where it took too long."""
+    """Runs a command; its exit status, None where it took too long, and was ended with all that it had started."""
     with open(log, "w") as out:
+        run = subprocess.Popen(command, stdin=subprocess.DEVNULL, stdout=out, stderr=subprocess.STDOUT, cwd=where, start_new_session=True)
         try:
-            return subprocess.run(command, stdin=subprocess.DEVNULL, stdout=out, stderr=subprocess.STDOUT, cwd=where, timeout=LIMIT).returncode
+            return run.wait(LIMIT)
         except subprocess.TimeoutExpired:
+            os.killpg(run.pid, signal.SIGKILL)
+            run.wait()
             return None
 
 
-def checked(crate, where, log, over=None):
-    """A check of a crate's text at `where`, as rt does it: from nothing, or over an incremental folder."""
-    more = ["--incremental", str(over)] if over else []
-    return asked([str(kit() / "bin" / "rattle"), "check", *words(crate), "--jobs", "1", *more], log, where)
-
-
-def linked(folder, to):
-    """A copy of an incremental folder; what was proved by links, since a check replaces such a file and changes none."""
-    copy = lambda one, other: os.link(one, other) if one.endswith(".oantt") and os.stat(one).st_dev == os.stat(COPIES).st_dev else shutil.copy2(one, other)
-    shutil.rmtree(to, ignore_errors=True)
-    shutil.copytree(folder, to, copy_function=copy)
-
-
-SEEDS = {}
-
-
 def kept(crate):
-    """The incremental folder that the crate as it stands leaves. rt check proves it, and builds the crates below, where they have changed."""
-    if crate not in SEEDS:
-        log = ROOT / "target" / f"{crate}.log"
-        log.parent.mkdir(exist_ok=True)
-        if asked(["rt", "check"], log, ROOT / "crates" / crate) != 0:
-            sys.exit(f"{crate} is not proved: target/{crate}.log says why")
-        room = COPIES / f"{crate}.kept"
-        linked(ROOT / "crates" / crate / "out" / "incremental", room)
-        if checked(crate, ROOT / "crates" / crate, log, room) != 0:
-            sys.exit(f"{crate} is not proved; target/{crate}.log says why")
-        SEEDS[crate] = room
-    return SEEDS[crate]
+    """Ends the command where the crate as it stands is not proved."""
+    log = ROOT / "target" / f"{crate}.log"
+    log.parent.mkdir(exist_ok=True)
+    if asked(["rt", "check"], log, ROOT / "crates" / crate) != 0:
+        sys.exit(f"{crate} is not proved: target/{crate}.log says why")
 
 
-def quickly(crate, where, log, over):
-    """A check of a changed copy, over a copy of what `kept` left; what is proved so is proved again from nothing."""
-    linked(kept(crate), over)
-    status = checked(crate, where, log, over)
-    return checked(crate, where, log) if status == 0 else status
+def quickly(where, log):
+    """A check of a changed copy, over what the checks before it left; what is proved so is proved again from nothing."""
+    status = asked(["rt", "check", "--jobs", "1"], log, where)
+    return asked(["rt", "verdict"], log, where) if status == 0 else status
 
 
 def reached(status, log):

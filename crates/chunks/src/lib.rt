@@ -2,7 +2,7 @@
 // the lowest first; a chunk is a word, its length, and that many bytes.
 #![tactic(auto)]
 
-ghost use Rattle.std.specs.Prelude.{◌≤◌, IfOk, length};
+ghost use Rattle.std.specs.Prelude.{◌≤◌, ◌≡◌, IfOk, IfErr, false, length};
 
 use std::io;
 use std::io::Read;
@@ -74,11 +74,10 @@ pub fn read_chunk<'a, R: Read>(
 
 // Whether another case is to be run, by what came of the last, which answers false where there was none. Where one cannot be run this says
 // why, and no more are.
-pub fn goes_on(
-    err: &impl Eprint,
-    program: &str,
-    done: Result<bool, CaseError>,
-) -> io::Result<bool> {
+pub fn goes_on(err: &impl Eprint, program: &str, done: Result<bool, CaseError>) -> io::Result<bool>
+    ensures done { IfOk done (λ more. result ≡ Ok more) }
+    ensures refused { IfErr done (λ why. IfOk result (λ on. on ≡ false)) }
+{
     match done {
         Ok(more) => Ok(more),
         Err(CaseError::Io(e)) => Err(e),

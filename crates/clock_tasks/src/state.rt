@@ -241,6 +241,8 @@ fn is_server(state: &[u8]) -> bool
         & zero_from(state, TIDS + hearers, WORDS)
 }
 
+// Inlined, since of a clock that starts all but its priority is then known.
+#[inline(always)]
 pub(crate) fn put(s: Server, state: &mut [u8])
     requires { length state.old ≡ 4 * Spec.words }
     ensures { state.new ≡ word_bytes (Spec.server_words s) }

@@ -18,11 +18,13 @@ const SECOND: usize = RECORD;
 
 const THIRD: usize = 2 * RECORD;
 
-// A line: a name, and bytes in hex.
-fn line(rt: &impl Print, name: &str, bytes: &[u8]) -> io::Result<()> {
+// A line: a name, and the bytes from one place up to another in hex.
+fn line(rt: &impl Print, name: &str, bytes: &[u8], start: usize, end: usize) -> io::Result<()> {
     rt.print(name)?;
-    for byte in bytes {
-        print!(rt; " {byte:02x}")?;
+    for at in start..end {
+        if at < bytes.len() {
+            print!(rt; " {:02x}", bytes[at])?;
+        }
     }
     println!(rt)
 }
@@ -54,22 +56,22 @@ impl Host {
     }
 
     fn first(&self, rt: &impl Print) -> io::Result<()> {
-        line(rt, "tid 1  ", &self.image[..SECOND])
+        line(rt, "tid 1  ", &self.image, 0, SECOND)
     }
 
     fn second(&self, rt: &impl Print) -> io::Result<()> {
-        line(rt, "tid 2  ", &self.image[SECOND..THIRD])
+        line(rt, "tid 2  ", &self.image, SECOND, THIRD)
     }
 
     // The first bytes of tid 2's area.
     fn received(&self, rt: &impl Print) -> io::Result<()> {
-        line(rt, "area 2 ", &self.areas[AREA..AREA + 6])
+        line(rt, "area 2 ", &self.areas, AREA, AREA + 6)
     }
 
     // A request, and its answer.
     fn ask(&mut self, rt: &impl Print, request: [u8; REQUEST]) -> io::Result<()> {
         let mut answer = [0; ANSWER];
-        line(rt, "request", &request)?;
+        line(rt, "request", &request, 0, REQUEST)?;
         kernel_step(
             ONE_WAITS,
             &mut self.image,
@@ -77,7 +79,7 @@ impl Host {
             &request,
             &mut answer,
         );
-        line(rt, "answer ", &answer)
+        line(rt, "answer ", &answer, 0, ANSWER)
     }
 }
 

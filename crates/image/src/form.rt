@@ -66,8 +66,10 @@ fn put_fitted(out: &mut [u8], at: usize, to: usize, r: &[u8])
     }
 }
 
-// The records of an image, each of `from` bytes, put into another, each of `to` bytes.
-fn put_records(image: &[u8], from: usize, out: &mut [u8], to: usize)
+// The records of an image, each of `from` bytes, put into another, each of `to` bytes. Inlined, as both below: where the compiler knows how
+// long the records are it stores them by words, and has no need of memcpy.
+#[inline(always)]
+fn put_each(image: &[u8], from: usize, out: &mut [u8], to: usize)
     requires { (length image.now ≡ slot_count * from) × (length out.old ≡ slot_count * to) }
     ensures { out.new ≡ reformed slot_count from to image.now }
 {
@@ -77,7 +79,21 @@ fn put_records(image: &[u8], from: usize, out: &mut [u8], to: usize)
     }
 }
 
+// The same, the newest form by itself, so that either length is known.
+#[inline(always)]
+fn put_records(image: &[u8], from: usize, out: &mut [u8], to: usize)
+    requires { (length image.now ≡ slot_count * from) × (length out.old ≡ slot_count * to) }
+    ensures { out.new ≡ reformed slot_count from to image.now }
+{
+    if to == RECORD {
+        put_each(image, from, out, RECORD);
+    } else {
+        put_each(image, from, out, to);
+    }
+}
+
 // An image put into bytes of another form, or of the same; nothing is done where either length is no form's.
+#[inline(always)]
 pub fn reform(image: &[u8], out: &mut [u8])
     ensures { out.new ≡ reformed_into slot_count image.now out.old }
 {

@@ -19,4 +19,4 @@ pub returns : goal.returns
 unfolding await_event
 returns c = let e = c.args.event in
     let free : may_wait c.args.self.edition ((queue_at c.args.self (event_queue e)).len + 1) ≡ true = rw (← c.event_queue-k.ensures, ← c.queue.ensures, ← c.may_join.ensures) c.if-not-may_join.false in
-    rw (c.stops.ensures, c.queued.ensures, c.mark_of.ensures, in_byte c.args.c (omega arith), c.event_queue-k.ensures, lt-leb events e (omega arith), free)
+    rw (c.stops.ensures, c.queue_up.ensures, c.mark_of.ensures, in_byte c.args.c (omega arith), c.event_queue-k.ensures, lt-leb events e (omega arith), free)

@@ -25,4 +25,4 @@ returns c = let t = c.args.self in
     let first = found (goal.at.returns c).After-used_slots-s in
     let parent : c.tid_of.result ≡ tid_of c.args.c = c.tid_of.ensures ∙ ap tid_of (in_byte c.args.c (omega arith)) in
     let word : entry_of c.args.entry ≡ c.args.entry = omega arith in
-    rw (c.resumes-2.ensures, c.number.ensures, c.from.ensures, c.tid_of-2.ensures, c.alone.ensures, c.mark_of.ensures, c.with_task.ensures, parent, word, in_byte c.used_slots-s.result (omega arith), first, lt-leb priorities c.args.priority (omega arith), lt-leb (slots t) (used_slots t) (omega arith))
+    rw (c.resumes-2.ensures, c.number.ensures, c.from.ensures, c.tid_of-2.ensures, c.alone.ensures, c.mark_of.ensures, c.put_task.ensures, parent, word, in_byte c.used_slots-s.result (omega arith), first, lt-leb priorities c.args.priority (omega arith), lt-leb (slots t) (used_slots t) (omega arith))

@@ -13,10 +13,10 @@ found : (t : Table) (p : ℕ) → p ≡ first_below priorities (λ p. ltb 0 (que
 unfolding first_ready
 found t p first = first
 
-pub returns : goal.returns
+pub returns-in-Some : goal.returns-in-Some
 unfolding dispatched activated
-returns c = let t = c.args.self in
+returns-in-Some c = let t = c.args.self in
     let met = c.in-Some.ensures {u = tt {0}} in
     let first = found t c.in-Some.p met.found in
     let some : ltb (first_ready t) priorities ≡ true = lt-ltb (first_ready t) priorities (rw (← first) met.below) in
-    rw (c.accepted-2.ensures, c.with_task.ensures, c.with_queue.ensures, c.becomes-active.ensures, c.taken-shown.ensures, c.popped.ensures, c.tid_of.ensures, in_byte c.slot_of-s.result c.slot_of-s.ensures.1, c.task.ensures, c.slot_of-s.ensures.0, c.queue-q.ensures, first, some)
+    rw (c.accepted-answer-in-Some.ensures, c.put_task.ensures, c.becomes.ensures, c.taken-shown.ensures, c.popped.ensures, c.tid_of.ensures, in_byte c.slot_of-s.result c.slot_of-s.ensures.1, c.task.ensures, c.slot_of-s.ensures.0, first, some)

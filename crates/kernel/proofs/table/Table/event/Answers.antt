@@ -11,4 +11,4 @@ unfolding event
 returns c = let e = c.args.event in
     let shaped = owned_shaped c.args.self _ c.well_formed.0 in
     let l : length (queue_at c.args.self (event_queue e)).marks ≡ places = shaped.queues.places (event_queue e) (omega (arith, c.requires)) in
-    rw (c.resumes.ensures, c.signal.ensures, c.with_queue.ensures, c.empty.ensures, c.queue.ensures, c.event_queue-k.ensures, l)
+    rw (c.resumes.ensures, c.signal.ensures, c.put_queue.ensures, c.empty.ensures, c.queue-woken.ensures, c.event_queue-k.ensures, l)

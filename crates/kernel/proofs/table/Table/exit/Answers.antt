@@ -15,4 +15,4 @@ unfolding exit
 returns c = let s = c.args.c in
     let shaped = owned_shaped c.args.self _ c.well_formed.0 in
     let l : length (queue_at c.args.self (send_queue s)).marks ≡ places = shaped.queues.places (send_queue s) (omega (arith, c.requires)) in
-    rw (c.stops.ensures, c.with_queue.ensures, c.empty.ensures, c.queue.ensures, own (goal.at.returns c).After-send_queue-k, l)
+    rw (c.stops.ensures, c.put_queue.ensures, c.empty.ensures, c.queue-woken.ensures, own (goal.at.returns c).After-send_queue-k, l)

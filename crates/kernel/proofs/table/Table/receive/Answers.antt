@@ -21,4 +21,4 @@ returns c = let t = c.args.self in
     let k = send_queue c.args.c in
     let queue : c.queue-q.result ≡ queue_at t k = c.queue-q.ensures ∙ ap (queue_at t) (own (goal.at.returns c).After-send_queue-k) in
     let filled : eqb (queue_at t k).len 0 ≡ false = rw (← queue) (ne_eqb _ 0 c.if-q-eq0.false) in
-    rw (c.resumes-2.ensures, c.is_cut.ensures, c.delivery-copy.ensures, c.tid_of-2.ensures, c.tid_of-sender.ensures, in_byte c.slot_of-s.result c.slot_of-s.ensures.1, slot_of_mark c.slot_of-s.result, in_byte c.args.c (omega arith), slot_of_mark c.args.c, c.left_as.ensures, c.with_queue.ensures, c.popped.ensures, c.reply_of.ensures, c.message_of-sent.ensures, c.task-state.ensures, c.slot_of-s.ensures.0, queue, own (goal.at.returns c).After-send_queue-k, good (goal.at.returns c).Else-not-good_buffer, filled)
+    rw (c.resumes-2.ensures, c.is_cut.ensures, c.delivery-copy.ensures, c.tid_of-2.ensures, c.tid_of-sender.ensures, in_byte c.slot_of-s.result c.slot_of-s.ensures.1, slot_of_mark c.slot_of-s.result, in_byte c.args.c (omega arith), slot_of_mark c.args.c, c.leave.ensures, c.put_queue.ensures, c.popped.ensures, c.reply_of.ensures, c.message_of-sent.ensures, c.task-state.ensures, c.slot_of-s.ensures.0, queue, own (goal.at.returns c).After-send_queue-k, good (goal.at.returns c).Else-not-good_buffer, filled)

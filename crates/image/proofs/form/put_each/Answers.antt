@@ -5,8 +5,8 @@ use Rattle.image.specs.Bytes.{record_at, in_order}
 use Rattle.image.specs.Form.{fitted, reformed}
 use Rattle.image.proofs.Loops.{image_more}
 use Rattle.image.proofs.Fitted.{record_ends, length_fitted}
-use Rattle.image.proofs.form.put_records.Invariants.{put}
-use Rattle.image.proofs.form.put_records.Goals as goal
+use Rattle.image.proofs.form.put_each.Invariants.{put}
+use Rattle.image.proofs.form.put_each.Goals as goal
 
 -- the record of a slot ends within either image
 ends : (from to s : ℕ) → s < slot_count → (s * from + from ≤ slot_count * from) × (s * to + to ≤ slot_count * to)

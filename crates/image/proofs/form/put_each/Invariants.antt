@@ -1,8 +1,8 @@
--- `image::form::put_records` meets its contract. The loop's invariant: the first s records are put, and behind them the bytes are as they were.
+-- `image::form::put_each` meets its contract. The loop's invariant: the first s records are put, and behind them the bytes are as they were.
 use Rattle.std.proofs.Common.{◌≡◌, ℕ, ◌*◌, List, ◌++◌, length, drop}
 use Rattle.image.specs.Bytes.{record_at, in_order}
 use Rattle.image.specs.Form.{fitted}
-use Rattle.image.proofs.form.put_records.Given as goal
+use Rattle.image.proofs.form.put_each.Given as goal
 
 -- record s of the image, as it is put
 abbrev pub put : ℕ → ℕ → List ℕ → ℕ → List ℕ
